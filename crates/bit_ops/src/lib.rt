@@ -1,0 +1,123 @@
+// Keys of 32 bytes: their order, the leading bits that two share, and the separator of two.
+// Ported from nomt/src/beatree/ops/bit_ops.rs of thrumdev/nomt: `prefix_len` and `separate`.
+use refusal::EQUAL_KEYS;
+ghost use mathlib.Core.Path.{_≡_};
+ghost use Prim.Native.Nat.{_-_, _^_, _<_, _≤_};
+ghost use lib.ListN.{length};
+ghost use Rattle.bit_ops.specs.Key.{Key, ltKey};
+ghost use Rattle.bit_ops.specs.Separate.{sharedBits, separateVerdict, separateLeaves};
+ghost use Rattle.bit_ops.specs.Steps.{wordAt, FirstWord, clearedFrom, cutAfter};
+
+fn wide(x: u8) -> u64
+    ensures { λ r. ⌜ (r ≡ x) × (r < 256) ⌝ }
+{
+    x as u64
+}
+
+// Word i of a key, so that keys are compared by eight bytes at a time: in this form the compiler makes one load of it.
+fn word_at(key: &[u8], i: usize) -> u64
+    requires { ⌜ (length (now key) ≡ 32) × (i < 4) ⌝ }
+    ensures { λ r. ⌜ r ≡ wordAt (now (key .entry)) i ⌝ }
+{
+    let at = 8 * i;
+    let two = wide(key[at]) * 256 + wide(key[at + 1]);
+    let four = (two * 256 + wide(key[at + 2])) * 256 + wide(key[at + 3]);
+    let six = (four * 256 + wide(key[at + 4])) * 256 + wide(key[at + 5]);
+    (six * 256 + wide(key[at + 6])) * 256 + wide(key[at + 7])
+}
+
+// The first word in which two keys differ, or 4.
+fn first_word(a: &[u8], b: &[u8]) -> usize
+    requires { ⌜ (length (now a) ≡ 32) × (length (now b) ≡ 32) ⌝ }
+    ensures { λ r. ⌜ FirstWord (now (a .entry)) (now (b .entry)) r ⌝ }
+{
+    let mut i = 0;
+    while i < 4 {
+        if word_at(a, i) != word_at(b, i) {
+            return i;
+        }
+        i += 1;
+    }
+    i
+}
+
+// Whether a comes before b. The keys may be parts of a page, so they are slices.
+pub fn less(a: &[u8], b: &[u8]) -> bool
+    requires { ⌜ (length (now a) ≡ 32) × (length (now b) ≡ 32) ⌝ }
+    ensures { λ r. ⌜ r ≡ ltKey (now (a .entry)) (now (b .entry)) ⌝ }
+{
+    let i = first_word(a, b);
+    if i < 4 {
+        word_at(a, i) < word_at(b, i)
+    } else {
+        false
+    }
+}
+
+// `prefix_len` of slices: the checker tells of a slice's elements, and not of an array's behind a reference, that they are
+// bytes, so this says it of the keys too.
+fn shared_bits(a: &[u8], b: &[u8]) -> usize
+    requires { ⌜ (length (now a) ≡ 32) × (length (now b) ≡ 32) ⌝ }
+    ensures { λ r. ⌜ (r ≡ sharedBits (now (a .entry)) (now (b .entry))) × Key (now (a .entry)) × Key (now (b .entry)) ⌝ }
+{
+    let i = first_word(a, b);
+    if 4 <= i {
+        return 256;
+    }
+    let different = word_at(a, i) ^ word_at(b, i);
+    64 * i + u64::leading_zeros(different) as usize
+}
+
+// How many leading bits two keys share: 256 for equal ones.
+pub fn prefix_len(a: &[u8; 32], b: &[u8; 32]) -> usize
+    ensures { λ r. ⌜ r ≡ sharedBits (now (a .entry)) (now (b .entry)) ⌝ }
+{
+    shared_bits(a, b)
+}
+
+// Zeros from byte `from` on.
+fn clear_from(key: &mut [u8], from: usize)
+    requires { ⌜ (length (now key) ≡ 32) × (from ≤ 32) ⌝ }
+    ensures { λ _. ⌜ (now (key .exit) ≡ clearedFrom (now (key .entry)) from) × (length (now (key .exit)) ≡ 32) ⌝ }
+{
+    let mut j = from;
+    while j < 32 {
+        key[j] = 0;
+        j += 1;
+    }
+}
+
+// The value of a byte's bit r, counted from the top.
+fn bit_value(r: usize) -> u8
+    requires { ⌜ r < 8 ⌝ }
+    ensures { λ v. ⌜ (v ≡ 2 ^ (7 - r)) × (0 < v) ⌝ }
+{
+    128u8 >> r
+}
+
+// Keeps a key's bits up to and with bit n, and clears the later ones.
+fn cut_after(key: &mut [u8], n: usize)
+    requires { ⌜ (length (now key) ≡ 32) × (n < 256) ⌝ }
+    ensures { λ _. ⌜ now (key .exit) ≡ cutAfter (now (key .entry)) n ⌝ }
+{
+    let i = n / 8;
+    let y = key[i];
+    let last = bit_value(n % 8);
+    key[i] = y - y % last;
+    clear_from(key, i + 1);
+}
+
+// Writes the separator of a and b into out: b's leading bits, one more than the two share, then zeros. Answers 0; equal
+// keys are refused, and out then keeps what it held.
+pub fn separate(a: &[u8; 32], b: &[u8; 32], out: &mut [u8; 32]) -> u8
+    ensures { λ r. ⌜ r ≡ separateVerdict (now (a .entry)) (now (b .entry)) ⌝ }
+    ensures { λ _. ⌜ now (out .exit) ≡ separateLeaves (now (a .entry)) (now (b .entry)) (now (out .entry)) ⌝ }
+{
+    let shared = shared_bits(a, b);
+    if 256 <= shared {
+        return EQUAL_KEYS;
+    }
+    *out = *b;
+    cut_after(out, shared);
+    0
+}
