@@ -1,0 +1,50 @@
+//! Runs nomt's unchanged leaf updater and the proved static library in one process and compares them.
+//!
+//! `oracle` is the Rust, `ours` the library. `random` makes up calls, `vectors` replays recorded ones,
+//! `bench` times both sides, `record` writes the Rust's answers to a file.
+//!
+//! Where a further call goes: its declaration and guarded wrapper in `ours`, its reference in `oracle`, its
+//! random inputs in a module like `keys` (listed in `random::SUBJECTS`), its line in `vectors::run_call`.
+
+mod bench;
+mod hex;
+mod keys;
+mod lent;
+mod oracle;
+mod ours;
+mod random;
+mod record;
+mod rng;
+mod vectors;
+
+// The included Rust names these by `crate::beatree` and `crate::io`.
+use oracle::{beatree, io};
+
+use std::path::Path;
+use std::process::ExitCode;
+
+const USAGE: &str = "\
+usage: compare random SECONDS SEED   made-up calls to both sides, for so many seconds
+       compare vectors DIR           the recorded call sequences DIR/*.txt
+       compare bench                 times of both sides (build with --profile timing)
+       compare record DIR            write the Rust's answers to DIR";
+
+fn main() -> ExitCode {
+    let words: Vec<String> = std::env::args().skip(1).collect();
+    let words: Vec<&str> = words.iter().map(String::as_str).collect();
+    match words[..] {
+        ["random", seconds, seed] => match (seconds.parse(), seed.parse()) {
+            (Ok(seconds), Ok(seed)) => random::run(seconds, seed),
+            _ => usage(),
+        },
+        ["vectors", dir] => vectors::run(Path::new(dir)),
+        ["bench"] => bench::run(),
+        ["record", dir] => record::run(Path::new(dir)),
+        _ => usage(),
+    }
+}
+
+fn usage() -> ExitCode {
+    eprintln!("{USAGE}");
+    ExitCode::from(2)
+}

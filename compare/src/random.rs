@@ -1,0 +1,92 @@
+//! `compare random SECONDS SEED`: made-up calls to both sides until the time is up.
+//! The calls depend on the seed alone; the time only says where they stop.
+
+use crate::keys;
+use crate::lent::Damage;
+use crate::rng::Rng;
+use std::process::ExitCode;
+use std::time::{Duration, Instant};
+
+/// One round of calls on a subject. A round covers every case of its subject at least once.
+type Subject = fn(&mut Rng, &mut Tally) -> Result<(), Mismatch>;
+
+const SUBJECTS: [Subject; 1] = [keys::round];
+
+/// A call on which the sides differ: its name, and labelled lines with the inputs and what each side gave.
+pub struct Mismatch {
+    pub call: &'static str,
+    pub lines: Vec<(&'static str, String)>,
+}
+
+impl Mismatch {
+    /// For a call that damaged what it was lent.
+    pub fn damage(
+        call: &'static str,
+        mut inputs: Vec<(&'static str, String)>,
+        damage: Damage,
+    ) -> Self {
+        inputs.push(("ours", damage.0));
+        Mismatch {
+            call,
+            lines: inputs,
+        }
+    }
+}
+
+/// How many calls of each kind agreed, in the order in which the kinds first came.
+#[derive(Default)]
+pub struct Tally {
+    kinds: Vec<(&'static str, u64)>,
+}
+
+impl Tally {
+    pub fn agreed(&mut self, kind: &'static str) {
+        match self.kinds.iter_mut().find(|(name, _)| *name == kind) {
+            Some((_, count)) => *count += 1,
+            None => self.kinds.push((kind, 1)),
+        }
+    }
+
+    pub fn total(&self) -> u64 {
+        self.kinds.iter().map(|(_, count)| count).sum()
+    }
+}
+
+pub fn run(seconds: u64, seed: u64) -> ExitCode {
+    let mut tally = Tally::default();
+    let outcome = rounds(Duration::from_secs(seconds), seed, &mut tally);
+    for (kind, count) in &tally.kinds {
+        println!("{kind}: {count}");
+    }
+    let passed = tally.total();
+    match outcome {
+        Ok(()) => {
+            println!("{passed} passed, 0 failed");
+            ExitCode::SUCCESS
+        }
+        Err(mismatch) => {
+            let number = passed + 1;
+            println!("mismatch: {}, seed {seed}, call {number}", mismatch.call);
+            for (label, text) in &mismatch.lines {
+                println!("  {label:<12} {text}");
+            }
+            println!("{passed} passed, 1 failed");
+            ExitCode::FAILURE
+        }
+    }
+}
+
+/// Whole rounds, at least one, so that even the shortest run meets every case.
+fn rounds(limit: Duration, seed: u64, tally: &mut Tally) -> Result<(), Mismatch> {
+    let start = Instant::now();
+    let mut rng = Rng::new(seed);
+    keys::equal_keys_make_the_rust_panic(&mut rng, tally)?;
+    loop {
+        for subject in SUBJECTS {
+            subject(&mut rng, tally)?;
+        }
+        if start.elapsed() >= limit {
+            return Ok(());
+        }
+    }
+}

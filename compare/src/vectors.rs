@@ -1,0 +1,315 @@
+//! `compare vectors DIR`: the recorded sequences DIR/*.txt, run on the library; each answer must be the
+//! recorded one. A call that is not ported yet is skipped and counted; a malformed line is a failure.
+
+mod answers;
+mod calls;
+mod fields;
+
+use crate::lent::Damage;
+use crate::oracle::Key;
+use crate::ours;
+use answers::{Answer, Line};
+use calls::{Call, UseOfWork};
+use std::path::{Path, PathBuf};
+use std::process::ExitCode;
+use std::{fs, io};
+
+enum Outcome {
+    Answered(Answer),
+    Damaged(Damage),
+    NotPorted,
+}
+
+/// Runs a call on the library. A call is ported by its line here.
+fn run_call(call: &Call) -> Outcome {
+    match call {
+        Call::Separate { a, b } => run_separate(a, b),
+        _ => Outcome::NotPorted,
+    }
+}
+
+fn run_separate(a: &Key, b: &Key) -> Outcome {
+    let before = [0x5a; 32];
+    match ours::separate(a, b, &before) {
+        Err(damage) => Outcome::Damaged(damage),
+        Ok(ours) if ours.reply == 0 => Outcome::Answered(Answer::Key(ours.out)),
+        Ok(ours) if ours.out == before => Outcome::Answered(Answer::Refused(ours.reply)),
+        Ok(ours) => {
+            let why = format!("refused {}, but changed `out`", ours.reply);
+            Outcome::Damaged(Damage(why))
+        }
+    }
+}
+
+/// The calls of one file.
+#[derive(Default)]
+struct Sequence {
+    /// A skipped call should have made or changed the work: what is recorded of it cannot be compared until
+    /// another `open` is accepted.
+    work_lost: bool,
+}
+
+impl Sequence {
+    fn run(&mut self, call: &Call, run_call: impl Fn(&Call) -> Outcome) -> Outcome {
+        let work = call.use_of_work();
+        let needs_work = matches!(work, UseOfWork::Changes | UseOfWork::Reads);
+        if needs_work && self.work_lost {
+            return Outcome::NotPorted;
+        }
+        let outcome = run_call(call);
+        match (work, &outcome) {
+            (UseOfWork::Makes | UseOfWork::Changes, Outcome::NotPorted) => self.work_lost = true,
+            (UseOfWork::Makes, Outcome::Answered(Answer::Accepted)) => self.work_lost = false,
+            _ => {}
+        }
+        outcome
+    }
+}
+
+/// A call and its recorded answer, with the call's line.
+struct Step<'a> {
+    line: Line<'a>,
+    call: Call,
+    answer: Answer,
+}
+
+/// Something wrong, and the number of the line that it is about.
+type Failure = (usize, String);
+
+/// Reads a file's text: its steps, and what is malformed.
+fn read_steps(text: &str) -> (Vec<Step<'_>>, Vec<Failure>) {
+    let mut groups: Vec<(Line, Vec<Line>)> = Vec::new();
+    let mut malformed = Vec::new();
+    for (number, line) in (1..).zip(text.lines()) {
+        if line.starts_with('#') {
+            continue;
+        }
+        if let Some(call) = line.strip_prefix("> ") {
+            groups.push(((number, call), Vec::new()));
+            continue;
+        }
+        match (line.strip_prefix("< "), groups.last_mut()) {
+            (Some(answer), Some((_, answers))) => answers.push((number, answer)),
+            (Some(_), None) => malformed.push((number, "an answer without a call".to_string())),
+            (None, _) => malformed.push((number, "none of `#`, `> `, `< `".to_string())),
+        }
+    }
+    let mut steps = Vec::new();
+    for (line, answers) in groups {
+        match read_step(line, &answers) {
+            Ok(step) => steps.push(step),
+            Err(failure) => malformed.push(failure),
+        }
+    }
+    (steps, malformed)
+}
+
+fn read_step<'a>(line: Line<'a>, answers: &[Line]) -> Result<Step<'a>, Failure> {
+    let call = Call::read(line.1).map_err(|why| (line.0, why))?;
+    if answers.is_empty() {
+        return Err((line.0, "a call without an answer".to_string()));
+    }
+    let answer = answers::read(&call, answers)?;
+    Ok(Step { line, call, answer })
+}
+
+#[derive(Default)]
+struct Report {
+    passed: usize,
+    failed: usize,
+    skipped: Vec<(&'static str, usize)>,
+}
+
+impl Report {
+    fn skip(&mut self, name: &'static str) {
+        match self.skipped.iter_mut().find(|(known, _)| *known == name) {
+            Some((_, count)) => *count += 1,
+            None => self.skipped.push((name, 1)),
+        }
+    }
+
+    /// Counts a file's failures and prints the first: those behind it may be its consequences.
+    fn fail(&mut self, file: &str, mut failures: Vec<Failure>) {
+        self.failed += failures.len();
+        failures.sort();
+        if let Some((line, why)) = failures.first() {
+            let more = match failures.len() - 1 {
+                0 => String::new(),
+                more => format!(" (and {more} more in this file)"),
+            };
+            println!("{file}, line {line}: {why}{more}");
+        }
+    }
+
+    fn finish(self) -> ExitCode {
+        if !self.skipped.is_empty() {
+            let names = self.skipped.iter();
+            let names: Vec<String> = names
+                .map(|(name, count)| format!("{name} {count}"))
+                .collect();
+            println!("skipped, not ported yet: {}", names.join(", "));
+        }
+        // A run that compared nothing shows nothing, so it is no success.
+        if self.passed + self.failed == 0 {
+            println!("nothing was compared");
+        }
+        println!("{} passed, {} failed", self.passed, self.failed);
+        if self.failed == 0 && self.passed > 0 {
+            ExitCode::SUCCESS
+        } else {
+            ExitCode::FAILURE
+        }
+    }
+}
+
+pub fn run(dir: &Path) -> ExitCode {
+    let files = match text_files(dir) {
+        Ok(files) => files,
+        Err(e) => {
+            eprintln!("{}: {e}", dir.display());
+            return ExitCode::FAILURE;
+        }
+    };
+    let mut report = Report::default();
+    for path in files {
+        let name = path.file_name().unwrap_or_default().to_string_lossy();
+        match fs::read_to_string(&path) {
+            Ok(text) => run_file(&name, &text, &mut report),
+            Err(e) => report.fail(&name, vec![(0, e.to_string())]),
+        }
+    }
+    report.finish()
+}
+
+fn text_files(dir: &Path) -> io::Result<Vec<PathBuf>> {
+    let mut files = Vec::new();
+    for entry in fs::read_dir(dir)? {
+        let path = entry?.path();
+        if path.extension().is_some_and(|extension| extension == "txt") {
+            files.push(path);
+        }
+    }
+    files.sort();
+    Ok(files)
+}
+
+fn run_file(name: &str, text: &str, report: &mut Report) {
+    let (steps, mut failures) = read_steps(text);
+    for failure in &mut failures {
+        failure.1 = format!("malformed: {}", failure.1);
+    }
+    let mut sequence = Sequence::default();
+    for step in steps {
+        let got = match sequence.run(&step.call, run_call) {
+            Outcome::NotPorted => {
+                report.skip(step.call.name());
+                continue;
+            }
+            Outcome::Answered(answer) if answer == step.answer => {
+                report.passed += 1;
+                continue;
+            }
+            Outcome::Answered(answer) => answer.lines().join(" | "),
+            Outcome::Damaged(damage) => damage.0,
+        };
+        let expected = step.answer.lines().join(" | ");
+        failures.push((step.line.0, difference(step.line.1, &expected, &got)));
+    }
+    report.fail(name, failures);
+}
+
+/// A line about a wrong answer. Long answers are cut to where they begin to differ.
+fn difference(call: &str, expected: &str, got: &str) -> String {
+    let same = expected.bytes().zip(got.bytes());
+    let same = same.take_while(|(left, right)| left == right).count();
+    let call = excerpt(call, 0);
+    let from = same.saturating_sub(80);
+    let (expected, got) = (excerpt(expected, from), excerpt(got, from));
+    format!("{call}: expected {expected}, got {got}")
+}
+
+fn excerpt(text: &str, from: usize) -> String {
+    const LONGEST: usize = 240;
+    if text.len() <= LONGEST {
+        return text.to_string();
+    }
+    let part: String = text.chars().skip(from).take(LONGEST).collect();
+    format!("[from character {from}] {part}...")
+}
+
+#[cfg(test)]
+mod tests {
+    use super::*;
+
+    const KEY: &str = "(32*00)";
+
+    fn malformed(text: &str) -> Vec<usize> {
+        let (_, failures) = read_steps(text);
+        failures.iter().map(|(line, _)| *line).collect()
+    }
+
+    #[test]
+    fn a_malformed_line_is_found() {
+        let good =
+            format!("# remark\n> scope key={KEY}\n< ok true\n> uncut dirty=3\n< refused 9\n");
+        assert_eq!(malformed(&good), []);
+        for (bad, line) in [
+            ("\n", 1),
+            ("< ok\n", 1),
+            ("> uncut\n", 1),
+            (">uncut\n< ok\n", 1),
+            ("> uncu\n< ok\n", 1),
+            ("> uncut \n< ok\n", 1),
+            ("> uncut page=00\n< ok\n", 1),
+            ("> uncut dirty=1 dirty=1\n< ok\n", 1),
+            ("> uncut\n< ok done\n", 2),
+            ("> uncut\n< refused 18\n", 2),
+            ("> uncut\n< refused 9\n< ok\n", 3),
+            ("> scope key=00\n< ok true\n", 1),
+            (
+                "> open base=none sep=(32*00) cutoff=none list=121 store=4096\n< ok\n",
+                1,
+            ),
+            ("> open base=00 cutoff=none list=121 store=4096\n< ok\n", 1),
+            (
+                "> ingest key=(32*00) delete put=00 flag=0\n< ok report=none\n",
+                1,
+            ),
+            (
+                "> digest area=0 tickets=0\n< ok leaves=1 done asked=1\n< tickets empty\n",
+                3,
+            ),
+            ("> digest area=0 tickets=0\n< ok leaves=0 done asked=0\n", 2),
+            (
+                "> dump\n< pending holder=store off=0 len=0 flag=0 key=(32*00)\n",
+                2,
+            ),
+        ] {
+            assert!(malformed(bad).contains(&line), "{bad}");
+        }
+    }
+
+    #[test]
+    fn what_a_skipped_call_should_have_changed_is_skipped() {
+        let run_all_but_ingest = |call: &Call| match call {
+            Call::Ingest { .. } => Outcome::NotPorted,
+            Call::Open { list: 0, .. } => Outcome::Answered(Answer::Refused(7)),
+            _ => Outcome::Answered(Answer::Accepted),
+        };
+        let mut sequence = Sequence::default();
+        let mut skips = |line: &str| {
+            let call = Call::read(line).unwrap();
+            let outcome = sequence.run(&call, run_all_but_ingest);
+            matches!(outcome, Outcome::NotPorted)
+        };
+        assert!(!skips("open base=none cutoff=none list=121 store=4096"));
+        assert!(!skips("twin index=0"));
+        assert!(skips("ingest key=(32*00) delete"));
+        assert!(skips("twin index=0"));
+        assert!(!skips("separate a=(32*00) b=(32*00)"));
+        assert!(!skips("open base=none cutoff=none list=0 store=4096"));
+        assert!(skips("dump"));
+        assert!(!skips("open base=none cutoff=none list=121 store=4096"));
+        assert!(!skips("dump"));
+    }
+}
