@@ -1,0 +1,37 @@
+# make run    proves, builds and runs `trials`, which prints document 01's bench trials
+# make test   everything that must pass; it stops at the first failing step
+# make bench  times of the calls, as ratios to the optimised Rust
+
+SECONDS_OF_RANDOM ?= 10
+SEED ?= 1
+
+# a step: its name and its command; says how long it took
+step = @start=$$(date +%s) && echo "== $(1)" && $(2) && echo "== $(1): $$(($$(date +%s) - start)) s"
+
+.PHONY: run test bench layout claims library compare
+
+run:
+	@mkdir -p build
+	@echo "proving and building trials (log: build/run.log)"
+	@rt check trials > build/run.log 2>&1 || { cat build/run.log; exit 1; }
+	@target/bin/trials
+
+# `rt ci` comes last, so that its 'N passed, 0 failed' is the last line; it removes target/
+test: layout claims library compare
+	@echo "== rt ci: every crate from nothing, every must-fail edit, every program"
+	@rt ci
+
+layout:
+	$(call step,layout of the source,rt fmt --check)
+
+claims:
+	$(call step,names and paths in docs/CLAIMS.md,tools/check-claims)
+
+library:
+	$(call step,static library,tools/quietly build/library.log rt staticlib leaf_updater)
+
+compare: library
+	$(call step,comparing with the Rust,tools/with-nomt tools/compare $(SECONDS_OF_RANDOM) $(SEED))
+
+bench: library
+	@tools/with-nomt tools/compare bench
