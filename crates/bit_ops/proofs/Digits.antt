@@ -9,7 +9,7 @@ use lib.Dec.{ltb}
 use lib.Pow.{pow-pos, pow-add, shl-shr}
 use lib.Arith.{digits-div}
 use Rattle.bit_ops.specs.Separate.{shared}
-use Rattle.bit_ops.proofs.SharedBits.{Top, top, shared-top}
+use Rattle.bit_ops.proofs.SharedBits.{Top, top, shared-top, none-above}
 
 -- the order of two numbers that agree above the digits x and y; the parts below them are less than w
 pub lt-digit : (base w p x y s t : ℕ) → s < w → t < w → (x ≡ y → ⊥) → ltb x y ≡ ltb ((p * base + x) * w + s) ((p * base + y) * w + t)
@@ -60,7 +60,6 @@ module _ (n d e p x y s t : ℕ) (hs : s < 2 ^ e) (ht : t < 2 ^ e) (within : e +
 
   pub shared-digit : x < 2 ^ d → y < 2 ^ d → (x ≡ y → ⊥) → shared n ((p * 2 ^ d + x) * 2 ^ e + s) ((p * 2 ^ d + y) * 2 ^ e + t) ≡ (n - (e + d)) + shared d x y
   shared-digit hx hy ne =
-      let h : (k : ℕ) × Top d x y k = top d x y hx hy ne in
-      let a : shared d x y + suc (h .0) ≡ d = shared-top d x y (h .0) (h .1) in
-      let b = shared-top n ((p * 2 ^ d + x) * 2 ^ e + s) ((p * 2 ^ d + y) * 2 ^ e + t) (e + h .0) (top-digit (h .0) (h .1)) in
-      omega (arith, a, b)
+      let k : ℕ = d - (shared d x y + 1) in
+      let h : Top d x y k = top d x y (none-above d x y hx hy) ne in
+      omega (arith, shared-top d x y k h, shared-top n ((p * 2 ^ d + x) * 2 ^ e + s) ((p * 2 ^ d + y) * 2 ^ e + t) (e + k) (top-digit k h))

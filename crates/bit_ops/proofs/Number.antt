@@ -52,11 +52,11 @@ unfolding bytesOf
 length-bytesOf zero v = refl
 length-bytesOf (suc n) v = ap suc (length-bytesOf n (v % 256 ^ n))
 
-pub num-bytesOf : (n v : ℕ) → v < 256 ^ n → num (bytesOf n v) ≡ v
+-- the first of n + 1 bytes takes whatever the others leave
+pub num-bytesOf : (n v : ℕ) → num (bytesOf (suc n) v) ≡ v
 unfolding num bytesOf
-num-bytesOf zero v h = omega arith
-num-bytesOf (suc n) v h =
-    rw (length-bytesOf n (v % 256 ^ n), num-bytesOf n (v % 256 ^ n) (mod-lt v (pow256-pos n))) (div-add-mod' v (256 ^ n))
+num-bytesOf zero v = omega arith
+num-bytesOf (suc n) v = rw (length-bytesOf (suc n) (v % 256 ^ suc n), num-bytesOf n (v % 256 ^ suc n)) (div-add-mod' v (256 ^ suc n))
 
 pub bytesOf-num : (xs : List ℕ) → Bytes xs → bytesOf (length xs) (num xs) ≡ xs
 unfolding num bytesOf

@@ -1,10 +1,10 @@
 -- What `sharedBits` and `separateOf` are: the bits before that many agree and the next one differs; the separator of a and b, for a below b,
 -- lies above a and not above b. Document 01's two worked separators. Assumes nothing.
-use mathlib.Core.Path.{_≡_, refl, ap, _∙_}
+use mathlib.Core.Path.{_≡_, refl, sym, ap, _∙_}
 use mathlib.Core.Bool.{true, false}
 use mathlib.Core.List.{List, _∷_}
 use Prim.Native.Nat.{ℕ, suc, _+_, _-_, _*_, _/_, _^_, _≤_, _<_}
-use native.Mathlib.Nat.{lt-of-le-of-lt, mul-le-mul-right, div-mul-le-self, lt-div-mul-add}
+use native.Mathlib.Nat.{mul-le-mul-right, div-mul-le-self, lt-div-mul-add}
 use native.Mathlib.Decide.{ℕ-discrete}
 use native.Mathlib.Omega.{arith}
 use borrow.Author.Tests.{eq-eqb}
@@ -15,53 +15,37 @@ use Rattle.bit_ops.specs.Key.{Key, num, bytesOf, eqKey}
 use Rattle.bit_ops.specs.Separate.{shared, sharedBits, leading, separateOf, separateVerdict, separateLeaves}
 use Rattle.bit_ops.specs.Steps.{zeros, cutAfter}
 use Rattle.bit_ops.proofs.Number.{key-lt, num-bytesOf, length-bytesOf}
-use Rattle.bit_ops.proofs.Order.{equal-numbers-are-equal-keys, eqKey-of-different}
-use Rattle.bit_ops.proofs.SharedBits.{Top, top, shared-top, shared-same}
+use Rattle.bit_ops.proofs.Order.{eqKey-of-different}
+use Rattle.bit_ops.proofs.SharedBits.{top, shared-top, shared-same, shared-agree, next-differs, none-above}
 use Rattle.bit_ops.proofs.Cutting.{cut-after-number}
 
-module _ (a b : List ℕ) (ha : Key a) (hb : Key b) (ne : a ≡ b → ⊥) where
-  -- the highest bit at which the keys differ, counted from the lowest
-  highest : (k : ℕ) × Top 256 (num a) (num b) k
-  highest = top 256 (num a) (num b) (key-lt ha) (key-lt hb) (λ e. ne (equal-numbers-are-equal-keys a b ha hb e))
+-- as many leading bits agree
+pub shared-bits-agree : (a b : List ℕ) → Key a → Key b → leading 256 (sharedBits a b) (num a) ≡ leading 256 (sharedBits a b) (num b)
+unfolding sharedBits leading
+shared-bits-agree a b ha hb = shared-agree 256 (num a) (num b) (none-above 256 (num a) (num b) (key-lt ha) (key-lt hb))
 
-  from-highest : sharedBits a b + suc (highest .0) ≡ 256
-  unfolding sharedBits
-  from-highest = shared-top 256 (num a) (num b) (highest .0) (highest .1)
-
-  pub shared-bits-agree : leading 256 (sharedBits a b) (num a) ≡ leading 256 (sharedBits a b) (num b)
-  unfolding leading
-  shared-bits-agree =
-      let e : 256 - sharedBits a b ≡ suc (highest .0) = omega (arith, from-highest) in
-      rw e (highest .1 .same)
-
-  pub next-bit-differs : leading 256 (sharedBits a b + 1) (num a) ≡ leading 256 (sharedBits a b + 1) (num b) → ⊥
-  unfolding leading
-  next-bit-differs =
-      let e : 256 - (sharedBits a b + 1) ≡ highest .0 = omega (arith, from-highest) in
-      rw e (highest .1 .differ)
+-- and the next one doesn't
+pub next-bit-differs : (a b : List ℕ) → (num a ≡ num b → ⊥) → leading 256 (sharedBits a b + 1) (num a) ≡ leading 256 (sharedBits a b + 1) (num b) → ⊥
+unfolding sharedBits leading
+next-bit-differs a b = next-differs 256 (num a) (num b)
 
 -- the number that a separator spells
-separator-number : (a b : List ℕ) → Key b → num (separateOf a b) ≡ leading 256 (sharedBits a b + 1) (num b) * 2 ^ (256 - (sharedBits a b + 1))
-unfolding separateOf leading
-separator-number a b hb =
-    num-bytesOf 32 (num b / 2 ^ (256 - (sharedBits a b + 1)) * 2 ^ (256 - (sharedBits a b + 1)))
-    (lt-of-le-of-lt (div-mul-le-self (num b) (2 ^ (256 - (sharedBits a b + 1)))) (key-lt hb))
+separator-number : (a b : List ℕ) → num (separateOf a b) ≡ leading 256 (sharedBits a b + 1) (num b) * 2 ^ (256 - (sharedBits a b + 1))
+unfolding separateOf
+separator-number a b = num-bytesOf 31 (leading 256 (sharedBits a b + 1) (num b) * 2 ^ (256 - (sharedBits a b + 1)))
 
-pub separator-is-at-most-b : (a b : List ℕ) → Key b → num (separateOf a b) ≤ num b
+pub separator-is-at-most-b : (a b : List ℕ) → num (separateOf a b) ≤ num b
 unfolding leading
-separator-is-at-most-b a b hb = rw (separator-number a b hb) (div-mul-le-self (num b) (2 ^ (256 - (sharedBits a b + 1))))
+separator-is-at-most-b a b = rw (separator-number a b) (div-mul-le-self (num b) (2 ^ (256 - (sharedBits a b + 1))))
 
-pub separator-is-above-a : (a b : List ℕ) → Key a → Key b → num a < num b → num a < num (separateOf a b)
+pub separator-is-above-a : (a b : List ℕ) → num a < num b → num a < num (separateOf a b)
 unfolding leading
-separator-is-above-a a b ha hb h =
+separator-is-above-a a b h =
     let m : ℕ = 256 - (sharedBits a b + 1) in
-    let ne : num a / 2 ^ m ≡ num b / 2 ^ m → ⊥ = next-bit-differs a b ha hb (λ e. different e) in
+    let ne : num a / 2 ^ m ≡ num b / 2 ^ m → ⊥ = next-bit-differs a b (λ e. omega arith) in
     let up : num a / 2 ^ m ≤ num b / 2 ^ m = shr-mono m (omega arith) in
     let less : num a / 2 ^ m + 1 ≤ num b / 2 ^ m = omega arith in
-    rw (separator-number a b hb) (omega (arith, mul-le-mul-right (2 ^ m) less, lt-div-mul-add {a = num a} (pow-pos m)))
-  where
-    different : a ≡ b → ⊥
-    different e = let z : num a < num a = rw (← e) at h in omega arith
+    rw (separator-number a b) (omega (arith, mul-le-mul-right (2 ^ m) less, lt-div-mul-add {a = num a} (pow-pos m)))
 
 pub separator-has-32-bytes : (a b : List ℕ) → length (separateOf a b) ≡ 32
 unfolding separateOf
@@ -78,8 +62,11 @@ separator-of-00-and-80 = refl
 
 -- ---- what `separate` answers and leaves
 
-pub shared-of-different : (a b : List ℕ) → Key a → Key b → (a ≡ b → ⊥) → sharedBits a b < 256
-shared-of-different a b ha hb ne = omega (arith, from-highest a b ha hb ne)
+shared-of-different : (a b : List ℕ) → Key a → Key b → (num a ≡ num b → ⊥) → sharedBits a b < 256
+unfolding sharedBits
+shared-of-different a b ha hb ne =
+    let h = top 256 (num a) (num b) (none-above 256 (num a) (num b) (key-lt ha) (key-lt hb)) ne in
+    omega (arith, shared-top 256 (num a) (num b) (256 - (shared 256 (num a) (num b) + 1)) h)
 
 -- keys that share fewer than 256 bits differ
 different : (a b : List ℕ) → sharedBits a b < 256 → a ≡ b → ⊥
@@ -91,7 +78,7 @@ same : (a b : List ℕ) → Key a → Key b → 256 ≤ sharedBits a b → eqKey
 unfolding eqKey
 same a b ha hb h = elim (ℕ-discrete (num a) (num b)) [
   | yes e ↦ eq-eqb (num a) (num b) e
-  | no ne ↦ absurd (omega (arith, shared-of-different a b ha hb (λ q. ne (ap num q)), h))
+  | no ne ↦ absurd (omega (arith, shared-of-different a b ha hb ne, h))
 ]
 
 module _ (a b held : List ℕ) (n : ℕ) (e : n ≡ sharedBits a b) (ha : Key a) (hb : Key b) where

@@ -1,8 +1,8 @@
 -- The highest bit at which two numbers differ says how many leading bits they share. Assumes nothing.
 use mathlib.Core.Path.{_≡_, refl, sym, ap, _∙_}
 use Prim.Native.Nat.{ℕ, zero, suc, _+_, _-_, _/_, _^_, _≤_, _<_}
-use native.Mathlib.Nat.{pow-succ', div-div-eq-div-mul}
-use native.Mathlib.Decide.{ℕ-discrete}
+use native.Mathlib.Nat.{pow-succ', div-div-eq-div-mul, div-one, div-eq-of-lt}
+use native.Mathlib.Decide.{ℕ-discrete, decLt}
 use native.Mathlib.Omega.{arith}
 use borrow.Author.Tests.{eq-eqb, ne-eqb}
 use lib.Bits.{bitXor, xor-add-and, and-le-l, and-le-r, xor-self, xor-shr}
@@ -38,23 +38,64 @@ shared-top (suc n) a b (suc k) t =
     }) in
     rw (shared, ne-eqb a b ne) (omega arith)
 
--- two numbers of n bits that differ do so at some highest bit
-pub top : (n a b : ℕ) → a < 2 ^ n → b < 2 ^ n → (a ≡ b → ⊥) → (k : ℕ) × Top n a b k
-top zero a b ha hb ne = absurd (ne (omega arith))
-top (suc n) a b ha hb ne = go (ℕ-discrete (a / 2) (b / 2)) (top n (a / 2) (b / 2) (omega arith) (omega arith))
+shared-le : (n a b : ℕ) → shared n a b ≤ n
+unfolding shared
+shared-le zero a b = omega arith
+shared-le (suc n) a b = go (ℕ-discrete a b) (shared-le n (a / 2) (b / 2))
   where
-    go : Dec (a / 2 ≡ b / 2) → ((a / 2 ≡ b / 2 → ⊥) → (k : ℕ) × Top n (a / 2) (b / 2) k) → (k : ℕ) × Top (suc n) a b k
-    go (yes e) ih = (zero, record { low = omega arith; differ = λ d. ne (omega arith); same = e })
-    go (no ne′) ih =
-        let k : ℕ = ih ne′ .0 in
-        let t : Top n (a / 2) (b / 2) k = ih ne′ .1 in (
-          suc k,
-          record {
-            low = omega arith;
-            differ = λ e. t .differ (sym (half-pow a k) ∙ e ∙ half-pow b k);
-            same = half-pow a (suc k) ∙ t .same ∙ sym (half-pow b (suc k));
-          },
-        )
+    go : Dec (a ≡ b) → shared n (a / 2) (b / 2) ≤ n → shared (suc n) a b ≤ suc n
+    go (yes e) ih = rw (shared-same (suc n) a b e) (omega arith)
+    go (no ne) ih = rw (shared, ne-eqb a b ne) (omega arith)
+
+-- as many leading bits are equal, where those above the n bits are
+pub shared-agree : (n a b : ℕ) → a / 2 ^ n ≡ b / 2 ^ n → a / 2 ^ (n - shared n a b) ≡ b / 2 ^ (n - shared n a b)
+unfolding shared
+shared-agree zero a b h = h
+shared-agree (suc n) a b h = go (ℕ-discrete a b) (shared-agree n (a / 2) (b / 2) (sym (half-pow a n) ∙ h ∙ half-pow b n)) (shared-le n (a / 2) (b / 2))
+  where
+    go : Dec (a ≡ b) → a / 2 / 2 ^ (n - shared n (a / 2) (b / 2)) ≡ b / 2 / 2 ^ (n - shared n (a / 2) (b / 2)) → shared n (a / 2) (b / 2) ≤ n
+        → a / 2 ^ (suc n - shared (suc n) a b) ≡ b / 2 ^ (suc n - shared (suc n) a b)
+    go (yes e) ih l = ap (λ (x : ℕ). x / 2 ^ (suc n - shared (suc n) a b)) e
+    go (no ne) ih l =
+        let e : suc n - shared n (a / 2) (b / 2) ≡ suc (n - shared n (a / 2) (b / 2)) = omega arith in
+        rw (shared, ne-eqb a b ne, e) (half-pow a (n - shared n (a / 2) (b / 2)) ∙ ih ∙ sym (half-pow b (n - shared n (a / 2) (b / 2))))
+
+-- and the next bit is not, where the numbers differ at all
+pub next-differs : (n a b : ℕ) → (a ≡ b → ⊥) → a / 2 ^ (n - (shared n a b + 1)) ≡ b / 2 ^ (n - (shared n a b + 1)) → ⊥
+unfolding shared
+next-differs zero a b ne h = ne (sym (div-one a) ∙ h ∙ div-one b)
+next-differs (suc n) a b ne h = go (decLt (shared n (a / 2) (b / 2)) n) (ℕ-discrete (a / 2) (b / 2)) (next-differs n (a / 2) (b / 2)) (rw (shared, ne-eqb a b ne) at h)
+  where
+    lowest : (s : ℕ) → suc n - (s + 1) ≡ 0 → a / 2 ^ (suc n - (s + 1)) ≡ b / 2 ^ (suc n - (s + 1)) → ⊥
+    lowest s e q = ne (sym (div-one a) ∙ (rw e at q) ∙ div-one b)
+
+    go : Dec (shared n (a / 2) (b / 2) < n) → Dec (a / 2 ≡ b / 2)
+        → ((a / 2 ≡ b / 2 → ⊥) → a / 2 / 2 ^ (n - (shared n (a / 2) (b / 2) + 1)) ≡ b / 2 / 2 ^ (n - (shared n (a / 2) (b / 2) + 1)) → ⊥)
+        → a / 2 ^ (suc n - (shared n (a / 2) (b / 2) + 1)) ≡ b / 2 ^ (suc n - (shared n (a / 2) (b / 2) + 1)) → ⊥
+    go (no l) d ih q = lowest (shared n (a / 2) (b / 2)) (omega arith) q
+    go (yes l) (yes e) ih q = omega (arith, shared-same n (a / 2) (b / 2) e, l)
+    go (yes l) (no ne′) ih q =
+        let s : ℕ = shared n (a / 2) (b / 2) in
+        let e : suc n - (s + 1) ≡ suc (n - (s + 1)) = omega arith in
+        ih ne′ (sym (half-pow a (n - (s + 1))) ∙ (rw e at q) ∙ half-pow b (n - (s + 1)))
+
+-- numbers of n bits have nothing above them
+pub none-above : (n a b : ℕ) → a < 2 ^ n → b < 2 ^ n → a / 2 ^ n ≡ b / 2 ^ n
+none-above n a b ha hb = div-eq-of-lt ha ∙ sym (div-eq-of-lt hb)
+
+-- so two numbers that differ, and not above their n bits, have a highest bit at which they do
+pub top : (n a b : ℕ) → a / 2 ^ n ≡ b / 2 ^ n → (a ≡ b → ⊥) → Top n a b (n - (shared n a b + 1))
+top n a b h ne = record {
+  low = omega (arith, less);
+  differ = next-differs n a b ne;
+  same = let e : suc (n - (shared n a b + 1)) ≡ n - shared n a b = omega (arith, less) in rw e (shared-agree n a b h);
+}
+  where
+    less : shared n a b < n
+    less = elim (decLt (shared n a b) n) [
+      | yes l ↦ l
+      | no l ↦ absurd (ne (let e : n - shared n a b ≡ 0 = omega arith in let q = shared-agree n a b h in sym (div-one a) ∙ (rw e at q) ∙ div-one b))
+    ]
 
 -- no bit of the exclusive or is set only where the numbers are one
 xor-of-different : (a b : ℕ) → (a ≡ b → ⊥) → bitXor a b ≡ 0 → ⊥
