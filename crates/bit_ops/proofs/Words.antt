@@ -1,10 +1,11 @@
 -- Keys by their four words of 8 bytes: what a word spells, and that the first word that differs decides the order and the shared bits.
 -- Assumes nothing.
 use mathlib.Core.Path.{_≡_, sym, ap, _∙_}
-use mathlib.Core.Bool.{false}
+use mathlib.Core.Bool.{true, false}
 use mathlib.Core.List.{List, [], _∷_}
 use Prim.Native.Nat.{ℕ, _+_, _-_, _*_, _^_, _≤_, _<_}
 use native.Mathlib.Nat.{add-zero}
+use native.Mathlib.Decide.{ℕ-discrete, decLt}
 use native.Mathlib.Omega.{arith}
 use borrow.Author.Tests.{le-ltb}
 use lib.Bits.{bitXor}
@@ -14,15 +15,15 @@ use lib.ListN.{length, getD, take, drop, length-drop, take-append-drop}
 use lib.Pow.{pow-add}
 use lib.Seq.{take-add, drop-drop, take-all, getD-drop}
 use Rattle.bit_ops.specs.Key.{Bytes, Key, num, ltKey}
-use Rattle.bit_ops.specs.Separate.{sharedBits}
-use Rattle.bit_ops.specs.Steps.{wordAt, FirstWord}
+use Rattle.bit_ops.specs.Separate.{shared, sharedBits}
+use Rattle.bit_ops.specs.Steps.{wordAt, Differing}
 use Rattle.bit_ops.proofs.Number.{num-lt, num-append, num-inj, pow256, part-bytes, part-length, rest-lt}
 use Rattle.bit_ops.proofs.SharedBits.{shared-same, shared-bits-by-xor}
 use Rattle.bit_ops.proofs.Digits.{lt-digit, shared-digit}
 
 -- what the code adds up
 eight : (l : List ℕ) → 8 ≤ length l
-    → (((((((getD l 0 0 * 256 + getD l 1 0) * 256 + getD l 2 0) * 256 + getD l 3 0) * 256 + getD l 4 0) * 256 + getD l 5 0) * 256 + getD l 6 0) * 256 + getD l 7 0)
+    → getD l 0 0 * 72057594037927936 + (getD l 1 0 * 281474976710656 + (getD l 2 0 * 1099511627776 + (getD l 3 0 * 4294967296 + (getD l 4 0 * 16777216 + (getD l 5 0 * 65536 + (getD l 6 0 * 256 + getD l 7 0))))))
     ≡ num (take 8 l)
 unfolding num
 eight (a ∷ b ∷ c ∷ d ∷ e ∷ f ∷ g ∷ h ∷ l) n = omega arith
@@ -38,7 +39,7 @@ eight (a ∷ b ∷ c ∷ d ∷ e ∷ f ∷ g ∷ []) n = absurd (omega arith)
 pub word-number : (k : List ℕ) (i a b c d e f g h : ℕ) → length k ≡ 32 → i < 4
     → a ≡ getD k (8 * i) 0 → b ≡ getD k (8 * i + 1) 0 → c ≡ getD k (8 * i + 2) 0 → d ≡ getD k (8 * i + 3) 0
     → e ≡ getD k (8 * i + 4) 0 → f ≡ getD k (8 * i + 5) 0 → g ≡ getD k (8 * i + 6) 0 → h ≡ getD k (8 * i + 7) 0
-    → (((((((a * 256 + b) * 256 + c) * 256 + d) * 256 + e) * 256 + f) * 256 + g) * 256 + h) ≡ wordAt k i
+    → a * 72057594037927936 + (b * 281474976710656 + (c * 1099511627776 + (d * 4294967296 + (e * 16777216 + (f * 65536 + (g * 256 + h)))))) ≡ wordAt k i
 unfolding wordAt
 word-number k i a b c d e f g h l w ea eb ec ed ee ef eg eh =
     let at : ℕ = 8 * i in
@@ -98,53 +99,52 @@ word-more a b i ha hb h e w =
     num-inj (take 8 (drop (8 * i) a)) (take 8 (drop (8 * i) b)) (la ∙ sym lb) (part-bytes 8 (8 * i) a (ha .bytes)) (part-bytes 8 (8 * i) b (hb .bytes)) w in
     rw (n, take-add (8 * i) 8 a, take-add (8 * i) 8 b, e, same)
 
--- the loop over the words: one more is shared, this one differs, none differs
-module _ (a b : List ℕ) (ha : Key a) (hb : Key b) (i : ℕ) (e : take (8 * i) a ≡ take (8 * i) b) where
-  pub word-shared-too : (x y : ℕ) → i < 4 → x ≡ wordAt a i → y ≡ wordAt b i → x ≡ y → take (8 * (i + 1)) a ≡ take (8 * (i + 1)) b
-  word-shared-too x y h xa yb w = word-more a b i ha hb h e (sym xa ∙ w ∙ yb)
+-- the loop over the words: one more is shared, this one differs, only the last may differ
+module _ (a b : List ℕ) (ha : Key a) (hb : Key b) (i : ℕ) (e : take (8 * i) a ≡ take (8 * i) b) (x y : ℕ) (xa : x ≡ wordAt a i) (yb : y ≡ wordAt b i) where
+  pub word-shared-too : i < 3 → x ≡ y → take (8 * (i + 1)) a ≡ take (8 * (i + 1)) b
+  word-shared-too h w = word-more a b i ha hb (omega arith) e (sym xa ∙ w ∙ yb)
 
-  pub word-differs : (x y : ℕ) → i < 4 → x ≡ wordAt a i → y ≡ wordAt b i → (x ≡ y → ⊥) → FirstWord a b i
-  word-differs x y h xa yb ne = record { key-a = ha; key-b = hb; within = omega arith; before = e; differ = λ l w. ne (xa ∙ w ∙ sym yb) }
+  pub word-differs : i < 3 → (x ≡ y → ⊥) → Differing a b i x y
+  word-differs h ne = record { key-a = ha; key-b = hb; within = omega arith; before = e; in-a = xa; in-b = yb; differ = λ l. ne }
 
-  pub no-word-differs : i ≤ 4 → 4 ≤ i → FirstWord a b i
-  no-word-differs h g = record { key-a = ha; key-b = hb; within = h; before = e; differ = λ l. absurd (omega arith) }
+  pub last-word : i ≤ 3 → 3 ≤ i → Differing a b i x y
+  last-word h g = record { key-a = ha; key-b = hb; within = omega arith; before = e; in-a = xa; in-b = yb; differ = λ l. absurd (omega arith) }
 
-module _ (a b : List ℕ) (r : ℕ) (f : FirstWord a b r) where
-  ha : Key a
-  ha = f .key-a
-
-  hb : Key b
-  hb = f .key-b
+module _ (a b : List ℕ) (at x y : ℕ) (d : Differing a b at x y) where
+  last : x ≡ y → 3 ≤ at
+  last e = elim (decLt at 3) [ yes l ↦ absurd (d .differ l e) | no l ↦ omega arith ]
 
   -- no word differs: the keys are one
-  pub same-words : 4 ≤ r → a ≡ b
-  same-words h =
-      let p : take (8 * r) a ≡ a = take-all (8 * r) a (omega (arith, ha .size)) in
-      let q : take (8 * r) b ≡ b = take-all (8 * r) b (omega (arith, hb .size)) in
-      cc (f .before)
+  same-words : x ≡ y → a ≡ b
+  same-words e =
+      let at-end : 3 ≤ at = last e in
+      let all : take (8 * (at + 1)) a ≡ take (8 * (at + 1)) b = word-more a b at (d .key-a) (d .key-b) (d .within) (d .before) (sym (d .in-a) ∙ e ∙ d .in-b) in
+      let p : take (8 * (at + 1)) a ≡ a = take-all (8 * (at + 1)) a (omega (arith, d .key-a .size)) in
+      let q : take (8 * (at + 1)) b ≡ b = take-all (8 * (at + 1)) b (omega (arith, d .key-b .size)) in
+      sym p ∙ all ∙ q
 
-  pub same-words-less : 4 ≤ r → false ≡ ltKey a b
+  pub word-less : ltb x y ≡ ltKey a b
   unfolding ltKey
-  same-words-less h = rw (same-words h) (sym (le-ltb (num b) (num b) (omega arith)))
+  word-less = elim (ℕ-discrete x y) [
+    | yes e ↦ rw (e, same-words e, le-ltb y y (omega arith)) (sym (le-ltb (num b) (num b) (omega arith)))
+    | no ne ↦ rw (d .in-a, d .in-b, word-split a at (d .key-a .size) (d .within), word-split b at (d .key-b .size) (d .within), d .before)
+        (lt-digit (2 ^ 64) (2 ^ (8 * (24 - 8 * at))) (num (take (8 * at) b)) (wordAt a at) (wordAt b at) (num (drop (8 * at + 8) a)) (num (drop (8 * at + 8) b))
+        (after-lt a at (d .key-a) (d .within)) (after-lt b at (d .key-b) (d .within)) (λ w. ne (d .in-a ∙ w ∙ sym (d .in-b))))
+  ]
 
-  pub same-words-shared : 4 ≤ r → 256 ≡ sharedBits a b
+  by-words : shared 64 x y + 64 * at ≡ sharedBits a b
   unfolding sharedBits
-  same-words-shared h = sym (shared-same 256 (num a) (num b) (ap num (same-words h)))
-
-  module _ (h : r < 4) (x y : ℕ) (ex : x ≡ wordAt a r) (ey : y ≡ wordAt b r) where
-    pub word-less : ltb x y ≡ ltKey a b
-    unfolding ltKey
-    word-less =
-        rw (ex, ey, word-split a r (ha .size) h, word-split b r (hb .size) h, f .before)
-        (lt-digit (2 ^ 64) (2 ^ (8 * (24 - 8 * r))) (num (take (8 * r) b)) (wordAt a r) (wordAt b r) (num (drop (8 * r + 8) a)) (num (drop (8 * r + 8) b))
-        (after-lt a r ha h) (after-lt b r hb h) (f .differ h))
-
-    pub word-shared : 64 * r + leadingZeros 64 (bitXor x y) ≡ sharedBits a b
-    unfolding sharedBits
-    word-shared =
-        rw (ex, ey, word-split a r (ha .size) h, word-split b r (hb .size) h, f .before, ← shared-bits-by-xor 64 (wordAt a r) (wordAt b r))
+  by-words = elim (ℕ-discrete x y) [
+    | yes e ↦ omega (arith, shared-same 64 x y e, shared-same 256 (num a) (num b) (ap num (same-words e)), d .within, last e)
+    | no ne ↦ rw (d .in-a, d .in-b, word-split a at (d .key-a .size) (d .within), word-split b at (d .key-b .size) (d .within), d .before)
         (omega (
           arith,
-          shared-digit 256 64 (8 * (24 - 8 * r)) (num (take (8 * r) b)) (wordAt a r) (wordAt b r) (num (drop (8 * r + 8) a)) (num (drop (8 * r + 8) b))
-              (after-lt a r ha h) (after-lt b r hb h) (omega arith) (word-lt a r ha h) (word-lt b r hb h) (f .differ h),
+          d .within,
+          shared-digit 256 64 (8 * (24 - 8 * at)) (num (take (8 * at) b)) (wordAt a at) (wordAt b at) (num (drop (8 * at + 8) a)) (num (drop (8 * at + 8) b))
+              (after-lt a at (d .key-a) (d .within)) (after-lt b at (d .key-b) (d .within)) (omega (arith, d .within)) (word-lt a at (d .key-a) (d .within)) (word-lt b at (d .key-b) (d .within))
+              (λ w. ne (d .in-a ∙ w ∙ sym (d .in-b))),
         ))
+  ]
+
+  pub word-shared : 64 * at + leadingZeros 64 (bitXor x y) ≡ sharedBits a b
+  word-shared = omega (arith, by-words, shared-bits-by-xor 64 x y)

@@ -1,6 +1,6 @@
 -- What the private steps of `less`, `prefix_len` and `separate` find and write. They go by words of 8 bytes.
 use mathlib.Core.Path.{_≡_}
-use Prim.Native.Nat.{ℕ, _-_, _*_, _/_, _%_, _^_, _≤_, _<_}
+use Prim.Native.Nat.{ℕ, _-_, _*_, _/_, _%_, _^_, _<_}
 use mathlib.Core.List.{List, _∷_, _++_}
 use lib.ListN.{getD, take, drop, replicate}
 use Rattle.bit_ops.specs.Key.{Key, num}
@@ -9,13 +9,15 @@ use Rattle.bit_ops.specs.Key.{Key, num}
 unfoldable pub wordAt : List ℕ → ℕ → ℕ
 wordAt k i = num (take 8 (drop (8 * i) k))
 
--- a and b are keys, and r is the first of their four words in which they differ, or 4 where they are equal
-pub record FirstWord (a b : List ℕ) (r : ℕ) : Type 0 where
+-- a and b are keys that have x and y as word `at`: the first word in which they differ, or the last one where no earlier does
+pub record Differing (a b : List ℕ) (at x y : ℕ) : Type 0 where
   pub key-a : Key a
   pub key-b : Key b
-  pub within : r ≤ 4
-  pub before : take (8 * r) a ≡ take (8 * r) b
-  pub differ : r < 4 → wordAt a r ≡ wordAt b r → ⊥
+  pub within : at < 4
+  pub before : take (8 * at) a ≡ take (8 * at) b
+  pub in-a : x ≡ wordAt a at
+  pub in-b : y ≡ wordAt b at
+  pub differ : at < 3 → x ≡ y → ⊥
 
 abbrev pub zeros : ℕ → List ℕ
 zeros n = replicate n 0

@@ -6,7 +6,7 @@ ghost use Prim.Native.Nat.{_-_, _^_, _<_, _≤_};
 ghost use lib.ListN.{length};
 ghost use Rattle.bit_ops.specs.Key.{Key, ltKey};
 ghost use Rattle.bit_ops.specs.Separate.{sharedBits, separateVerdict, separateLeaves};
-ghost use Rattle.bit_ops.specs.Steps.{wordAt, FirstWord, clearedFrom, cutAfter};
+ghost use Rattle.bit_ops.specs.Steps.{wordAt, Differing, clearedFrom, cutAfter};
 
 fn wide(x: u8) -> u64
     ensures { λ r. ⌜ (r ≡ x) × (r < 256) ⌝ }
@@ -20,52 +20,61 @@ fn word_at(key: &[u8], i: usize) -> u64
     ensures { λ r. ⌜ r ≡ wordAt (now (key .entry)) i ⌝ }
 {
     let at = 8 * i;
-    let two = wide(key[at]) * 256 + wide(key[at + 1]);
-    let four = (two * 256 + wide(key[at + 2])) * 256 + wide(key[at + 3]);
-    let six = (four * 256 + wide(key[at + 4])) * 256 + wide(key[at + 5]);
-    (six * 256 + wide(key[at + 6])) * 256 + wide(key[at + 7])
+    let one = wide(key[at + 7]);
+    let two = wide(key[at + 6]) * 256 + one;
+    let three = wide(key[at + 5]) * 65536 + two;
+    let four = wide(key[at + 4]) * 16777216 + three;
+    let five = wide(key[at + 3]) * 4294967296 + four;
+    let six = wide(key[at + 2]) * 1099511627776 + five;
+    let seven = wide(key[at + 1]) * 281474976710656 + six;
+    wide(key[at]) * 72057594037927936 + seven
 }
 
-// The first word in which two keys differ, or 4.
-fn first_word(a: &[u8], b: &[u8]) -> usize
+// Two keys at the first word in which they differ, or at the last one: which word, and what each key has there.
+struct Difference {
+    at: usize,
+    x: u64,
+    y: u64,
+}
+
+// Slices, since keys may be parts of a page; and the checker tells of a slice's elements, not of an array's behind a
+// reference, that they are bytes, so this says of both that they are keys.
+fn first_difference(a: &[u8], b: &[u8]) -> Difference
     requires { ⌜ (length (now a) ≡ 32) × (length (now b) ≡ 32) ⌝ }
-    ensures { λ r. ⌜ FirstWord (now (a .entry)) (now (b .entry)) r ⌝ }
+    ensures { λ r. ⌜ Differing (now (a .entry)) (now (b .entry)) (r .at) (r .x) (r .y) ⌝ }
 {
     let mut i = 0;
-    while i < 4 {
-        if word_at(a, i) != word_at(b, i) {
-            return i;
+    while i < 3 {
+        let x = word_at(a, i);
+        let y = word_at(b, i);
+        if x != y {
+            return Difference { at: i, x: x, y: y };
         }
         i += 1;
     }
-    i
+    Difference {
+        at: i,
+        x: word_at(a, i),
+        y: word_at(b, i),
+    }
 }
 
-// Whether a comes before b. The keys may be parts of a page, so they are slices.
+// Whether a comes before b.
 pub fn less(a: &[u8], b: &[u8]) -> bool
     requires { ⌜ (length (now a) ≡ 32) × (length (now b) ≡ 32) ⌝ }
     ensures { λ r. ⌜ r ≡ ltKey (now (a .entry)) (now (b .entry)) ⌝ }
 {
-    let i = first_word(a, b);
-    if i < 4 {
-        word_at(a, i) < word_at(b, i)
-    } else {
-        false
-    }
+    let d = first_difference(a, b);
+    d.x < d.y
 }
 
-// `prefix_len` of slices: the checker tells of a slice's elements, and not of an array's behind a reference, that they are
-// bytes, so this says it of the keys too.
+// `prefix_len` of slices. Equal keys need no case of their own: of their last words no bit differs.
 fn shared_bits(a: &[u8], b: &[u8]) -> usize
     requires { ⌜ (length (now a) ≡ 32) × (length (now b) ≡ 32) ⌝ }
     ensures { λ r. ⌜ (r ≡ sharedBits (now (a .entry)) (now (b .entry))) × Key (now (a .entry)) × Key (now (b .entry)) ⌝ }
 {
-    let i = first_word(a, b);
-    if 4 <= i {
-        return 256;
-    }
-    let different = word_at(a, i) ^ word_at(b, i);
-    64 * i + u64::leading_zeros(different) as usize
+    let d = first_difference(a, b);
+    64 * d.at + u64::leading_zeros(d.x ^ d.y) as usize
 }
 
 // How many leading bits two keys share: 256 for equal ones.

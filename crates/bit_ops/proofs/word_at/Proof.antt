@@ -8,17 +8,17 @@ use Rattle.bit_ops.proofs.word_at.Tie as tie
 mul-at : tie.Need-mul-at
 mul-at c = search needs
 
+add-wide : tie.Need-add-wide
+add-wide c = search needs
+
 shared-slice-read-wide : tie.Need-shared-slice-read-wide
 shared-slice-read-wide c = search needs
 
 wide-requires : tie.Need-wide-requires
 wide-requires c κs = search needs
 
-mul-two : tie.Need-mul-two
-mul-two c = search needs
-
-add-wide : tie.Need-add-wide
-add-wide c = search needs
+add-wide-2 : tie.Need-add-wide-2
+add-wide-2 c = search needs
 
 shared-slice-read-wide-2 : tie.Need-shared-slice-read-wide-2
 shared-slice-read-wide-2 c = search needs
@@ -26,14 +26,14 @@ shared-slice-read-wide-2 c = search needs
 wide-requires-2 : tie.Need-wide-requires-2
 wide-requires-2 c κs = search needs
 
+mul-two : tie.Need-mul-two
+mul-two c = search needs
+
 add-two : tie.Need-add-two
 add-two c = search needs
 
-mul-four : tie.Need-mul-four
-mul-four c = search needs
-
-add-wide-2 : tie.Need-add-wide-2
-add-wide-2 c = search needs
+add-wide-3 : tie.Need-add-wide-3
+add-wide-3 c = search needs
 
 shared-slice-read-wide-3 : tie.Need-shared-slice-read-wide-3
 shared-slice-read-wide-3 c = search needs
@@ -41,14 +41,14 @@ shared-slice-read-wide-3 c = search needs
 wide-requires-3 : tie.Need-wide-requires-3
 wide-requires-3 c κs = search needs
 
-add-four : tie.Need-add-four
-add-four c = search needs
+mul-three : tie.Need-mul-three
+mul-three c = search needs
 
-mul-four-2 : tie.Need-mul-four-2
-mul-four-2 c = search needs
+add-three : tie.Need-add-three
+add-three c = search needs
 
-add-wide-3 : tie.Need-add-wide-3
-add-wide-3 c = search needs
+add-wide-4 : tie.Need-add-wide-4
+add-wide-4 c = search needs
 
 shared-slice-read-wide-4 : tie.Need-shared-slice-read-wide-4
 shared-slice-read-wide-4 c = search needs
@@ -56,14 +56,14 @@ shared-slice-read-wide-4 c = search needs
 wide-requires-4 : tie.Need-wide-requires-4
 wide-requires-4 c κs = search needs
 
-add-four-2 : tie.Need-add-four-2
-add-four-2 c = search needs
+mul-four : tie.Need-mul-four
+mul-four c = search needs
 
-mul-six : tie.Need-mul-six
-mul-six c = search needs
+add-four : tie.Need-add-four
+add-four c = search needs
 
-add-wide-4 : tie.Need-add-wide-4
-add-wide-4 c = search needs
+add-wide-5 : tie.Need-add-wide-5
+add-wide-5 c = search needs
 
 shared-slice-read-wide-5 : tie.Need-shared-slice-read-wide-5
 shared-slice-read-wide-5 c = search needs
@@ -71,14 +71,14 @@ shared-slice-read-wide-5 c = search needs
 wide-requires-5 : tie.Need-wide-requires-5
 wide-requires-5 c κs = search needs
 
-add-six : tie.Need-add-six
-add-six c = search needs
+mul-five : tie.Need-mul-five
+mul-five c = search needs
 
-mul-six-2 : tie.Need-mul-six-2
-mul-six-2 c = search needs
+add-five : tie.Need-add-five
+add-five c = search needs
 
-add-wide-5 : tie.Need-add-wide-5
-add-wide-5 c = search needs
+add-wide-6 : tie.Need-add-wide-6
+add-wide-6 c = search needs
 
 shared-slice-read-wide-6 : tie.Need-shared-slice-read-wide-6
 shared-slice-read-wide-6 c = search needs
@@ -86,14 +86,14 @@ shared-slice-read-wide-6 c = search needs
 wide-requires-6 : tie.Need-wide-requires-6
 wide-requires-6 c κs = search needs
 
-add-six-2 : tie.Need-add-six-2
-add-six-2 c = search needs
+mul-six : tie.Need-mul-six
+mul-six c = search needs
 
-mul-result : tie.Need-mul-result
-mul-result c = search needs
+add-six : tie.Need-add-six
+add-six c = search needs
 
-add-wide-6 : tie.Need-add-wide-6
-add-wide-6 c = search needs
+add-wide-7 : tie.Need-add-wide-7
+add-wide-7 c = search needs
 
 shared-slice-read-wide-7 : tie.Need-shared-slice-read-wide-7
 shared-slice-read-wide-7 c = search needs
@@ -101,14 +101,11 @@ shared-slice-read-wide-7 c = search needs
 wide-requires-7 : tie.Need-wide-requires-7
 wide-requires-7 c κs = search needs
 
-add-result : tie.Need-add-result
-add-result c = search needs
+mul-seven : tie.Need-mul-seven
+mul-seven c = search needs
 
-mul-result-2 : tie.Need-mul-result-2
-mul-result-2 c = search needs
-
-add-wide-7 : tie.Need-add-wide-7
-add-wide-7 c = search needs
+add-seven : tie.Need-add-seven
+add-seven c = search needs
 
 shared-slice-read-wide-8 : tie.Need-shared-slice-read-wide-8
 shared-slice-read-wide-8 c = search needs
@@ -116,8 +113,11 @@ shared-slice-read-wide-8 c = search needs
 wide-requires-8 : tie.Need-wide-requires-8
 wide-requires-8 c κs = search needs
 
-add-result-2 : tie.Need-add-result-2
-add-result-2 c = search needs
+mul-result : tie.Need-mul-result
+mul-result c = search needs
+
+add-result : tie.Need-add-result
+add-result c = search needs
 
 returns : tie.Need-returns
 returns c = search (word-number, needs)
@@ -127,41 +127,41 @@ word-at-spec =
     tie.close
     (tie.spec
     mul-at
+    add-wide
     shared-slice-read-wide
     wide-requires
-    mul-two
-    add-wide
+    add-wide-2
     shared-slice-read-wide-2
     wide-requires-2
+    mul-two
     add-two
-    mul-four
-    add-wide-2
+    add-wide-3
     shared-slice-read-wide-3
     wide-requires-3
-    add-four
-    mul-four-2
-    add-wide-3
+    mul-three
+    add-three
+    add-wide-4
     shared-slice-read-wide-4
     wide-requires-4
-    add-four-2
-    mul-six
-    add-wide-4
+    mul-four
+    add-four
+    add-wide-5
     shared-slice-read-wide-5
     wide-requires-5
-    add-six
-    mul-six-2
-    add-wide-5
+    mul-five
+    add-five
+    add-wide-6
     shared-slice-read-wide-6
     wide-requires-6
-    add-six-2
-    mul-result
-    add-wide-6
+    mul-six
+    add-six
+    add-wide-7
     shared-slice-read-wide-7
     wide-requires-7
-    add-result
-    mul-result-2
-    add-wide-7
+    mul-seven
+    add-seven
     shared-slice-read-wide-8
     wide-requires-8
-    add-result-2
+    mul-result
+    add-result
     returns)

@@ -1,19 +1,19 @@
--- `bit_ops::first_word` meets its contract. The invariant: the words before `i` are the same in both.
+-- `bit_ops::first_difference` meets its contract. The invariant: the words before `i` are the same in both.
 -- Assumes nothing.
 use mathlib.Core.Path.{_≡_, refl}
 use Prim.Native.Nat.{_≤_, _-_, _*_}
 use lib.ListN.{take}
 use Rattle.bit_ops.specs.Key.{Key}
-use Rattle.bit_ops.proofs.Words.{word-shared-too, word-differs, no-word-differs}
+use Rattle.bit_ops.proofs.Words.{word-shared-too, word-differs, last-word}
 use borrow.Author.Needs.{needs}
-use Rattle.bit_ops.proofs.first_word.Statement.{statement}
-use Rattle.bit_ops.proofs.first_word.Tie as tie
+use Rattle.bit_ops.proofs.first_difference.Statement.{statement}
+use Rattle.bit_ops.proofs.first_difference.Tie as tie
 
 abbrev Inv-loop : tie.InvT-loop
-Inv-loop a b i₀ i = (i ≤ 4) × (take (8 * i) a ≡ take (8 * i) b)
+Inv-loop a b i₀ i = (i ≤ 3) × (take (8 * i) a ≡ take (8 * i) b)
 
 abbrev μ-loop : tie.MeasureT-loop
-μ-loop a b i₀ i = 4 - i
+μ-loop a b i₀ i = 3 - i
 
 loop-holds : tie.Need-loop-holds Inv-loop μ-loop
 loop-holds c = (search needs, refl)
@@ -36,8 +36,7 @@ returns c =
     let b = start .args .b .now in
     let ha : Key a = record { size = start .pre .0; bytes = λ k. known-a .shared-slice-known .given k .fits } in
     let hb : Key b = record { size = start .pre .1; bytes = λ k. known-b .shared-slice-known2 .given k .fits } in
-    let words = word-differs a b ha hb (at-loop .loop .i) (at-loop .loop .inv .1) in
-    words (first .word-at .result) (second .word-at2 .result) (search needs) (first .word-at .ensures) (second .word-at2 .ensures) (c .if1 .taken)
+    word-differs a b ha hb (at-loop .loop .i) (at-loop .loop .inv .1) (first .word-at .result) (second .word-at2 .result) (first .word-at .ensures) (second .word-at2 .ensures) (search needs) (c .if1 .taken)
 
 add-i : tie.Need-add-i Inv-loop μ-loop
 add-i c = search needs
@@ -57,12 +56,18 @@ loop-again c =
     let b = start .args .b .now in
     let ha : Key a = record { size = start .pre .0; bytes = λ k. known-a .shared-slice-known .given k .fits } in
     let hb : Key b = record { size = start .pre .1; bytes = λ k. known-b .shared-slice-known2 .given k .fits } in
-    let words = word-shared-too a b ha hb (at-loop .loop .i) (at-loop .loop .inv .1) in
-    (search needs, words (first .word-at .result) (second .word-at2 .result) (search needs) (first .word-at .ensures) (second .word-at2 .ensures) (c .if1 .left))
+    (search needs, word-shared-too a b ha hb (at-loop .loop .i) (at-loop .loop .inv .1) (first .word-at .result) (second .word-at2 .result) (first .word-at .ensures) (second .word-at2 .ensures) (search needs) (c .if1 .left))
+
+word-at-requires-3 : tie.Need-word-at-requires-3 Inv-loop μ-loop
+word-at-requires-3 c κs = search needs
+
+word-at-requires-4 : tie.Need-word-at-requires-4 Inv-loop μ-loop
+word-at-requires-4 c κs = search needs
 
 returns-2 : tie.Need-returns-2 Inv-loop μ-loop
 returns-2 c =
-    let at-loop = c .before in
+    let first = c .before in
+    let at-loop = first .before .before in
     let known-b = at-loop .before in
     let known-a = known-b .before in
     let start = known-a .before in
@@ -70,10 +75,10 @@ returns-2 c =
     let b = start .args .b .now in
     let ha : Key a = record { size = start .pre .0; bytes = λ k. known-a .shared-slice-known .given k .fits } in
     let hb : Key b = record { size = start .pre .1; bytes = λ k. known-b .shared-slice-known2 .given k .fits } in
-    no-word-differs a b ha hb (at-loop .loop .i) (at-loop .loop .inv .1) (search needs) (search needs)
+    last-word a b ha hb (at-loop .loop .i) (at-loop .loop .inv .1) (first .word-at3 .result) (c .word-at4 .result) (first .word-at3 .ensures) (c .word-at4 .ensures) (search needs) (search needs)
 
-pub first-word-spec : {M : Type 1} → statement M
-first-word-spec =
+pub first-difference-spec : {M : Type 1} → statement M
+first-difference-spec =
     tie.close
     (tie.spec
     Inv-loop
@@ -85,4 +90,6 @@ first-word-spec =
     add-i
     loop-less
     loop-again
+    word-at-requires-3
+    word-at-requires-4
     returns-2)
