@@ -1,0 +1,29 @@
+-- `leaf_node::find` meets its contract.
+-- Assumes nothing.
+use borrow.Author.Needs.{needs}
+use Rattle.leaf_node.proofs.find.Statement.{statement}
+use Rattle.leaf_node.proofs.find.Tie as tie
+use Rattle.leaf_node.proofs.Searches.{find-there, find-some, find-none}
+
+search-requires : tie.Need-search-requires
+search-requires c κs = search needs
+
+enum-known-place : tie.Need-enum-known-place
+enum-known-place c = search needs
+
+cell-at-requires : tie.Need-cell-at-requires
+cell-at-requires c κs = search (find-there, needs)
+
+enum-told : tie.Need-enum-told
+enum-told c = search needs
+
+returns : tie.Need-returns
+returns c = search (find-some, needs)
+
+returns-2 : tie.Need-returns-2
+returns-2 c = search (find-none, needs)
+
+pub find-spec : {M : Type 1} → statement M
+find-spec =
+    tie.close
+    (tie.spec search-requires enum-known-place cell-at-requires enum-told returns returns-2)
