@@ -1,0 +1,5 @@
+-- Laws on plain values. `Pushing` is for readers and for other crates; the rest serves the functions' proofs.
+pub mod Putting
+pub mod Pushing
+pub mod Writing
+pub mod Rebuilding

@@ -1,0 +1,72 @@
+-- `leaf_builder::push_pointers` meets its contract: the pointers of the records before i are written.
+-- Assumes nothing.
+use borrow.Author.Needs.{needs}
+use Rattle.leaf_builder.proofs.push_pointers.Statement.{statement}
+use Rattle.leaf_builder.proofs.push_pointers.Tie as tie
+use mathlib.Core.Path.{_≡_, refl}
+use Prim.Native.Nat.{_+_, _-_, _≤_}
+use lib.ListN.{length}
+use Rattle.leaf_node.specs.Page.{pointer, recordsBetween}
+use Rattle.leaf_node.specs.Build.{pointers, put}
+use Rattle.leaf_builder.proofs.Writing.{chunk-long, chunk-shift, pointers-start, pointers-more, pointers-done, closer}
+
+abbrev Inv-loop : tie.InvT-loop
+Inv-loop page from to d₀ j at first i₀ place₀ d i place = (from ≤ i) × (i ≤ to) × (place ≡ pointer (j + (i - from))) × (d ≡ put d₀ (pointer j) (pointers at (recordsBetween page from i))) × (length d ≡ length d₀)
+
+abbrev μ-loop : tie.MeasureT-loop
+μ-loop page from to d₀ j at first i₀ place₀ d i place = to - i
+
+count-of-requires : tie.Need-count-of-requires Inv-loop μ-loop
+count-of-requires c κs = search (chunk-long, needs)
+
+start-at-requires : tie.Need-start-at-requires Inv-loop μ-loop
+start-at-requires c κs = search needs
+
+mul-place : tie.Need-mul-place Inv-loop μ-loop
+mul-place c = search needs
+
+add-place : tie.Need-add-place Inv-loop μ-loop
+add-place c = search needs
+
+loop-holds : tie.Need-loop-holds Inv-loop μ-loop
+loop-holds c = (search needs, search needs, search needs, search (pointers-start, needs), refl)
+
+push-pointer-requires : tie.Need-push-pointer-requires Inv-loop μ-loop
+push-pointer-requires c κs = search (chunk-shift, needs)
+
+add-place-2 : tie.Need-add-place-2 Inv-loop μ-loop
+add-place-2 c = search needs
+
+add-i : tie.Need-add-i Inv-loop μ-loop
+add-i c = search needs
+
+loop-less : tie.Need-loop-less Inv-loop μ-loop
+loop-less c = search (closer, needs)
+
+loop-again : tie.Need-loop-again Inv-loop μ-loop
+loop-again c = (search needs, search needs, search needs, search (pointers-more, needs), search needs)
+
+same-length : tie.Need-same-length Inv-loop μ-loop
+same-length c = search needs
+
+returns : tie.Need-returns Inv-loop μ-loop
+returns c = search (pointers-done, needs)
+
+pub push-pointers-spec : {M : Type 1} → statement M
+push-pointers-spec =
+    tie.close
+    (tie.spec
+    Inv-loop
+    μ-loop
+    count-of-requires
+    start-at-requires
+    mul-place
+    add-place
+    loop-holds
+    push-pointer-requires
+    add-place-2
+    add-i
+    loop-less
+    loop-again
+    same-length
+    returns)
