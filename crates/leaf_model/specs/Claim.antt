@@ -1,0 +1,45 @@
+-- What is claimed of a sequence of calls: demand 3, over records.
+use mathlib.Core.Path.{_≡_}
+use mathlib.Core.Bool.{true}
+use mathlib.Core.Option.{some}
+use mathlib.Core.List.{List, [], _∷_, _++_, map}
+use Prim.Native.Nat.{ℕ, _≤_, _<_}
+use Rattle.bit_ops.specs.Key.{num}
+use Rattle.leaf_node.specs.Limits.{bodyLimit, mergeBelow}
+use Rattle.leaf_node.specs.Record.{Record, body}
+use Rattle.leaf_model.specs.Basics.{All, joined, nonempty}
+use Rattle.leaf_model.specs.Work.{Leaf, pending, lastKey}
+use Rattle.leaf_model.specs.Tally.{Run}
+
+-- keys in order, by the numbers that they spell: `ltKey a b` is true, `ltKey b a` is false
+abbrev pub Lt : List ℕ → List ℕ → Type 0
+Lt a b = num a < num b
+
+abbrev pub Le : List ℕ → List ℕ → Type 0
+Le a b = num a ≤ num b
+
+-- the keys strictly rise: each is below all that come after it
+pub data Rising : List Record → Type 0 where
+  rise[] : Rising []
+  rise∷ : {x : Record} {xs : List Record} → All (λ y. Lt (x .key) (y .key)) xs → Rising xs → Rising (x ∷ xs)
+
+-- the records of leaves, in order
+abbrev pub recordsOf : List Leaf → List Record
+recordsOf ls = joined (map (λ l. l .records) ls)
+
+-- what is due of each leaf that was given out
+pub record LeafGood (size : ℕ) (l : Leaf) : Type 0 where
+  pub some-record : nonempty (l .records) ≡ true
+  pub fits : body (l .records) ≤ bodyLimit size
+  pub enough : (c : List ℕ) → l .cutoff ≡ some c → mergeBelow size ≤ body (l .records)
+  -- the separator is at or below each key; the cutoff, where there is one, above the last
+  pub first : All (λ r. Le (l .separator) (r .key)) (l .records)
+  pub last : (c : List ℕ) → l .cutoff ≡ some c → Lt (lastKey (l .records)) c
+
+pub record Claim (size : ℕ) (s : Run) : Type 0 where
+  -- leaves given out and pending records are the tally, in order
+  pub tally : recordsOf (s .leaves) ++ pending (s .work) ≡ s .tally
+  pub rising : Rising (s .tally)
+  pub leaves : All (LeafGood size) (s .leaves)
+  -- where a linked leaf ends, the next one starts
+  pub linked : (xs ys : List Leaf) (x y : Leaf) → s .leaves ≡ xs ++ (x ∷ y ∷ ys) → x .linked ≡ true → x .cutoff ≡ some (y .separator)
