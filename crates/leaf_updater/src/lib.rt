@@ -1,7 +1,20 @@
 // The calls as a firmware programmer links them: document 01's calls under C names with the prefix `leaf_`, refusals by
-// document 01's numbers. No call has a `requires`.
+// document 01's numbers. No call has a `requires`. An enum can't cross to C, so replies are structs of numbers; `specs/`
+// says which one stands for each case.
+use leaf_node::GetReply;
+use leaf_node::KeyReply;
+use leaf_node::SizeReply;
+use leaf_node::ValueReply;
 ghost use mathlib.Core.Path.{_≡_};
+ghost use mathlib.Core.Bool.{cond};
+ghost use lib.ListN.{length};
 ghost use Rattle.bit_ops.specs.Separate.{sharedBits, separateVerdict, separateLeaves};
+ghost use Rattle.leaf_node.specs.Good.{pageVerdict};
+ghost use Rattle.leaf_node.specs.Reply.{keyReply, valueReply, getReply, sizeReply};
+ghost use Rattle.leaf_builder.specs.Rebuild.{rebuildVerdict, rebuildLeaves};
+ghost use Rattle.leaf_updater.specs.Reply.{keyOut, valueOut, getOut, sizeOut};
+
+// ---- keys
 
 // How many leading bits two keys share: 256 for equal ones.
 #[no_mangle]
@@ -18,4 +31,165 @@ pub extern "C" fn leaf_separate(a: &[u8; 32], b: &[u8; 32], out: &mut [u8; 32]) 
     ensures { λ _. ⌜ now (out .exit) ≡ separateLeaves (now (a .entry)) (now (b .entry)) (now (out .entry)) ⌝ }
 {
     bit_ops::separate(a, b, out)
+}
+
+// ---- leaf pages. A refusal has its number and zeros in every other field.
+
+#[repr(C)]
+pub struct LeafKey {
+    pub refusal: u8,
+    pub key: [u8; 32],
+}
+
+#[repr(C)]
+pub struct LeafValue {
+    pub refusal: u8,
+    // 1 where `get` finds no such key, else 0
+    pub absent: u8,
+    pub flag: u8,
+    pub offset: usize,
+    pub len: usize,
+}
+
+#[repr(C)]
+pub struct LeafSize {
+    pub refusal: u8,
+    pub bytes: usize,
+}
+
+// The page's refusal, 1 to 5, or 0 for a good page.
+#[no_mangle]
+pub extern "C" fn leaf_page_check(page: &[u8]) -> u8
+    ensures { λ r. ⌜ r ≡ pageVerdict 4096 (now (page .entry)) ⌝ }
+{
+    leaf_node::check(page)
+}
+
+fn key_out(reply: KeyReply) -> LeafKey
+    ensures { λ r. ⌜ r ≡ keyOut reply ⌝ }
+{
+    let key = reply.key;
+    LeafKey {
+        refusal: reply.refusal,
+        key: key,
+    }
+}
+
+// Key i of a page.
+#[no_mangle]
+pub extern "C" fn leaf_page_key(page: &[u8], i: usize) -> LeafKey
+    ensures { λ r. ⌜ r ≡ keyOut (keyReply 4096 (now (page .entry)) i) ⌝ }
+{
+    key_out(leaf_node::key(page, i))
+}
+
+fn bit(flag: bool) -> u8
+    ensures { λ r. ⌜ r ≡ cond flag 1 0 ⌝ }
+{
+    if flag { 1 } else { 0 }
+}
+
+fn value_out(reply: ValueReply) -> LeafValue
+    ensures { λ r. ⌜ r ≡ valueOut reply ⌝ }
+{
+    match reply {
+        ValueReply::Refused(n) => LeafValue {
+            refusal: n,
+            absent: 0,
+            flag: 0,
+            offset: 0,
+            len: 0,
+        },
+        ValueReply::At(c) => LeafValue {
+            refusal: 0,
+            absent: 0,
+            flag: bit(c.flag),
+            offset: c.offset,
+            len: c.len,
+        },
+    }
+}
+
+// Value i of a page: offset, length and flag.
+#[no_mangle]
+pub extern "C" fn leaf_page_value(page: &[u8], i: usize) -> LeafValue
+    ensures { λ r. ⌜ r ≡ valueOut (valueReply 4096 (now (page .entry)) i) ⌝ }
+{
+    value_out(leaf_node::value(page, i))
+}
+
+fn get_out(reply: GetReply) -> LeafValue
+    ensures { λ r. ⌜ r ≡ getOut reply ⌝ }
+{
+    match reply {
+        GetReply::Refused(n) => LeafValue {
+            refusal: n,
+            absent: 0,
+            flag: 0,
+            offset: 0,
+            len: 0,
+        },
+        GetReply::Absent => LeafValue {
+            refusal: 0,
+            absent: 1,
+            flag: 0,
+            offset: 0,
+            len: 0,
+        },
+        GetReply::At(c) => LeafValue {
+            refusal: 0,
+            absent: 0,
+            flag: bit(c.flag),
+            offset: c.offset,
+            len: c.len,
+        },
+    }
+}
+
+// The value of a key in a page, or absent.
+#[no_mangle]
+pub extern "C" fn leaf_page_get(page: &[u8], key: &[u8; 32]) -> LeafValue
+    ensures { λ r. ⌜ r ≡ getOut (getReply 4096 (now (page .entry)) (now (key .entry))) ⌝ }
+{
+    get_out(leaf_node::get(page, key))
+}
+
+fn size_out(reply: SizeReply) -> LeafSize
+    ensures { λ r. ⌜ r ≡ sizeOut reply ⌝ }
+{
+    match reply {
+        SizeReply::Refused(n) => LeafSize {
+            refusal: n,
+            bytes: 0,
+        },
+        SizeReply::Bytes(b) => LeafSize {
+            refusal: 0,
+            bytes: b,
+        },
+    }
+}
+
+// The value bytes of records `from` up to, not including, `to`.
+#[no_mangle]
+pub extern "C" fn leaf_page_values_size(page: &[u8], from: usize, to: usize) -> LeafSize
+    ensures { λ r. ⌜ r ≡ sizeOut (sizeReply 4096 (now (page .entry)) from to) ⌝ }
+{
+    size_out(leaf_node::values_size(page, from, to))
+}
+
+// Builds the page of records `from` up to `to` in the first 4,096 bytes of out, records before `mid` cell by cell and the
+// others as one chunk. Refused by 1 to 5, by 10 unless from <= mid <= to <= n, and by 17 where out is shorter; out is then
+// as it was. It is the builder by itself, so that it can be compared with the Rust's.
+#[no_mangle]
+pub extern "C" fn leaf_page_rebuild(
+    page: &[u8],
+    from: usize,
+    mid: usize,
+    to: usize,
+    out: &mut [u8],
+) -> u8
+    ensures { λ r. ⌜ r ≡ rebuildVerdict 4096 (now (page .entry)) from mid to (length (now (out .entry))) ⌝ }
+    ensures { λ _. ⌜ now (out .exit) ≡ rebuildLeaves 4096 (now (page .entry)) from mid to (now (out .entry)) ⌝ }
+{
+    leaf_builder::rebuild(page, from, mid, to, out)
 }

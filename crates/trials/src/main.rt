@@ -1,86 +1,13 @@
 // Document 01, "Bench trials", through the proved calls: a line for each trial with what came out, and whether that is
 // what the paper states. A star marks the trials of the proved table.
-use libc::STDOUT_FILENO;
-
-fn say(text: &[u8]) {
-    io::write_all(STDOUT_FILENO, text);
-}
-
-// The line's end: what came out is what the paper states, or it isn't.
-fn close_line(stated: bool) {
-    if stated {
-        say(b"   as stated\n");
-    } else {
-        say(b"   NOT AS STATED\n");
-    }
-}
-
-fn wide(x: u8) -> u64 {
-    x as u64
-}
-
-// A key that starts with x, zeros after.
-fn key_from(x: u8) -> [u8; 32] {
-    let mut key = [0u8; 32];
-    key[0] = x;
-    key
-}
-
-// Whether all bytes but the first are zero.
-fn zeros_after(key: &[u8; 32]) -> bool {
-    let mut i = 1;
-    while i < 32 {
-        if key[i] != 0 {
-            return false;
-        }
-        i += 1;
-    }
-    true
-}
-
-// `separate` of keys that start with a and b: refused by `refusal` (0: accepted), and what it was lent then starts with x.
-fn separate_trial(label: &[u8], a: u8, b: u8, refusal: u8, x: u8) {
-    say(label);
-    let mut out = key_from(0xee);
-    let reply = leaf_updater::leaf_separate(&key_from(a), &key_from(b), &mut out);
-    if reply == 0 {
-        say(b"starts ");
-        io::print_hex(STDOUT_FILENO, wide(out[0]), 2);
-    } else {
-        say(b"refused ");
-        io::print_decimal(STDOUT_FILENO, wide(reply));
-    }
-    close_line(reply == refusal && out[0] == x && zeros_after(&out));
-}
+mod keys;
+mod line;
+mod pages;
 
 fn main() {
-    say(b"Document 01, bench trials (* proved as well, as a theorem about the definitions)\n\n");
-    separate_trial(
-        b"* separate, keys starting 10 and 13         ",
-        0x10,
-        0x13,
-        0,
-        0x12,
+    line::say(
+        b"Document 01, bench trials (* proved as well, as a theorem about the definitions)\n\n",
     );
-    separate_trial(
-        b"* separate, keys starting 00 and 80         ",
-        0x00,
-        0x80,
-        0,
-        0x80,
-    );
-    separate_trial(
-        b"  separate, the other way round, 13 and 10  ",
-        0x13,
-        0x10,
-        0,
-        0x10,
-    );
-    separate_trial(
-        b"  separate, equal keys                      ",
-        0x10,
-        0x10,
-        11,
-        0xee,
-    );
+    keys::run();
+    pages::run();
 }

@@ -1,8 +1,8 @@
--- `trials::zeros_after` is safe and ends.
+-- `trials::keys::zeros_after` is safe and ends.
 use Prim.Native.Nat.{_≤_, _-_}
 use borrow.Author.Needs.{needs}
-use Rattle.trials.proofs.zeros_after.Statement.{statement}
-use Rattle.trials.proofs.zeros_after.Tie as tie
+use Rattle.trials.proofs.keys.zeros_after.Statement.{statement}
+use Rattle.trials.proofs.keys.zeros_after.Tie as tie
 
 abbrev Inv-loop : tie.InvT-loop
 Inv-loop key i₀ i = i ≤ 32

@@ -1,0 +1,25 @@
+-- `leaf_updater::value_out` meets its contract.
+-- Assumes nothing.
+use Rattle.leaf_updater.proofs.Replies.{value-refused, value-found}
+use borrow.Author.Needs.{needs}
+use Rattle.leaf_updater.proofs.value_out.Statement.{statement}
+use Rattle.leaf_updater.proofs.value_out.Tie as tie
+
+enum-known-reply : tie.Need-enum-known-reply
+enum-known-reply c = search needs
+
+enum-known-reply-2 : tie.Need-enum-known-reply-2
+enum-known-reply-2 c = search needs
+
+bit-requires : tie.Need-bit-requires
+bit-requires c κs = search needs
+
+returns : tie.Need-returns
+returns c = search (value-refused, needs)
+
+returns-2 : tie.Need-returns-2
+returns-2 c = search (value-found, needs)
+
+pub value-out-spec : {M : Type 1} → statement M
+value-out-spec =
+    tie.close (tie.spec enum-known-reply enum-known-reply-2 bit-requires returns returns-2)

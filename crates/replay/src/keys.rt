@@ -1,0 +1,26 @@
+// `separate` and `prefix_len` against records of 99 bytes: a, b, the reply, the shared bits, the separator.
+use crate::bytes::byte;
+use crate::bytes::key;
+use crate::bytes::number;
+use crate::bytes::same_key;
+use crate::tally::Tally;
+
+// A refused call leaves the lent key, here zeros, as it was; so the record has zeros too.
+fn passes(v: &[u8; 99]) -> bool {
+    let a = key(v, 0);
+    let b = key(v, 32);
+    let mut out = [0u8; 32];
+    let reply = leaf_updater::leaf_separate(&a, &b, &mut out);
+    let shared = leaf_updater::leaf_prefix_len(&a, &b);
+    reply == byte(v, 64) && shared == number(v, 65) && same_key(v, 67, &out)
+}
+
+// The next record of the file.
+pub fn next(fd: i32, t: Tally) -> Tally {
+    let mut v = [0u8; 99];
+    let n = io::read_full(fd, &mut v);
+    if n != 99 {
+        return t.end(n);
+    }
+    t.count(passes(&v))
+}

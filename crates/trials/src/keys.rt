@@ -1,0 +1,69 @@
+// The trials of `separate`.
+use crate::line::close;
+use crate::line::say;
+use crate::line::say_hex;
+use crate::line::say_reply;
+
+// A key that starts with x, zeros after.
+pub fn key_from(x: u8) -> [u8; 32] {
+    let mut key = [0u8; 32];
+    key[0] = x;
+    key
+}
+
+// Whether all bytes but the first are zero.
+fn zeros_after(key: &[u8; 32]) -> bool {
+    let mut i = 1;
+    while i < 32 {
+        if key[i] != 0 {
+            return false;
+        }
+        i += 1;
+    }
+    true
+}
+
+// `separate` of keys that start with a and b: refused by `refusal` (0: accepted), and what it was lent then starts with x.
+fn separate_trial(label: &[u8], a: u8, b: u8, refusal: u8, x: u8) {
+    say(label);
+    let mut out = key_from(0xee);
+    let reply = leaf_updater::leaf_separate(&key_from(a), &key_from(b), &mut out);
+    if reply == 0 {
+        say(b"starts ");
+        say_hex(out[0]);
+    } else {
+        say_reply(reply);
+    }
+    close(reply == refusal && out[0] == x && zeros_after(&out));
+}
+
+pub fn run() {
+    separate_trial(
+        b"* separate, keys starting 10 and 13          ",
+        0x10,
+        0x13,
+        0,
+        0x12,
+    );
+    separate_trial(
+        b"* separate, keys starting 00 and 80          ",
+        0x00,
+        0x80,
+        0,
+        0x80,
+    );
+    separate_trial(
+        b"  separate, the other way round, 13 and 10   ",
+        0x13,
+        0x10,
+        0,
+        0x10,
+    );
+    separate_trial(
+        b"  separate, equal keys                       ",
+        0x10,
+        0x10,
+        11,
+        0xee,
+    );
+}
