@@ -3,7 +3,7 @@
 
 use crate::hex;
 use crate::oracle::{self, Key};
-use crate::ours::{self, EQUAL_KEYS};
+use crate::ours::keys::{self as ours, EQUAL_KEYS};
 use crate::random::{Mismatch, Tally};
 use crate::rng::Rng;
 

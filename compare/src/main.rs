@@ -12,6 +12,7 @@ mod keys;
 mod lent;
 mod oracle;
 mod ours;
+mod pages;
 mod random;
 mod record;
 mod rng;

@@ -7,7 +7,8 @@ mod fields;
 
 use crate::lent::Damage;
 use crate::oracle::Key;
-use crate::ours;
+use crate::ours::keys as ours;
+use crate::ours::pages::{LentPage, ValueReply};
 use answers::{Answer, Line};
 use calls::{Call, UseOfWork};
 use std::path::{Path, PathBuf};
@@ -24,8 +25,39 @@ enum Outcome {
 fn run_call(call: &Call) -> Outcome {
     match call {
         Call::Separate { a, b } => run_separate(a, b),
+        Call::PageKey { page, index } => answered(LentPage::new(page).key(*index), |reply| {
+            or_refused(reply.refusal, Answer::Key(reply.key))
+        }),
+        Call::PageValue { page, index } => answered(LentPage::new(page).value(*index), cell),
+        Call::PageGet { page, key } => answered(LentPage::new(page).get(key), cell),
+        Call::PageValuesSize { page, from, to } => {
+            answered(LentPage::new(page).values_size(*from, *to), |reply| {
+                or_refused(reply.refusal, Answer::Size(reply.bytes))
+            })
+        }
         _ => Outcome::NotPorted,
     }
+}
+
+fn answered<T>(reply: Result<T, Damage>, answer: impl Fn(T) -> Answer) -> Outcome {
+    match reply {
+        Ok(reply) => Outcome::Answered(answer(reply)),
+        Err(damage) => Outcome::Damaged(damage),
+    }
+}
+
+fn or_refused(refusal: u8, accepted: Answer) -> Answer {
+    if refusal == 0 {
+        accepted
+    } else {
+        Answer::Refused(refusal)
+    }
+}
+
+fn cell(reply: ValueReply) -> Answer {
+    let found = (reply.offset, reply.len, reply.flag != 0);
+    let cell = (reply.absent == 0).then_some(found);
+    or_refused(reply.refusal, Answer::Cell(cell))
 }
 
 fn run_separate(a: &Key, b: &Key) -> Outcome {
