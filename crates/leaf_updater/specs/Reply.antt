@@ -1,13 +1,14 @@
 -- The structs of numbers that stand for the replies of the core: document 01's number, and the values of each case.
 use mathlib.Core.Bool.{cond}
-use lib.ListN.{replicate}
+use Prim.Native.Nat.{ℕ}
+use Rattle.leaf_node.specs.declared.Cell.{Cell}
 use Rattle.leaf_node.specs.declared.KeyReply.{KeyReply}
 use Rattle.leaf_node.specs.declared.ValueReply.{ValueReply}
 use Rattle.leaf_node.specs.declared.ValueReply.the-variants as value
 use Rattle.leaf_node.specs.declared.GetReply.{GetReply}
 use Rattle.leaf_node.specs.declared.GetReply.the-variants as get
 use Rattle.leaf_node.specs.declared.SizeReply.{SizeReply}
-use Rattle.leaf_node.specs.declared.SizeReply.the-variants as size
+use Rattle.leaf_node.specs.declared.SizeReply.the-variants as sizes
 use Rattle.leaf_updater.specs.declared.LeafKey.{LeafKey}
 use Rattle.leaf_updater.specs.declared.LeafValue.{LeafValue}
 use Rattle.leaf_updater.specs.declared.LeafSize.{LeafSize}
@@ -16,15 +17,21 @@ abbrev pub keyOut : KeyReply → LeafKey
 keyOut r = record { refusal = r .refusal; key = r .key }
 
 -- a refusal: its number, and zeros in every other field
+abbrev pub refusedValue : ℕ → LeafValue
+refusedValue n = record { refusal = n; absent = 0; flag = 0; offset = 0; len = 0 }
+
+abbrev pub foundValue : Cell → LeafValue
+foundValue c = record { refusal = 0; absent = 0; flag = cond (c .flag) 1 0; offset = c .offset; len = c .len }
+
 abbrev pub valueOut : ValueReply → LeafValue
-valueOut (value.Refused n) = record { refusal = n; absent = 0; flag = 0; offset = 0; len = 0 }
-valueOut (value.At c) = record { refusal = 0; absent = 0; flag = cond (c .flag) 1 0; offset = c .offset; len = c .len }
+valueOut (value.Refused n) = refusedValue n
+valueOut (value.At c) = foundValue c
 
 abbrev pub getOut : GetReply → LeafValue
-getOut (get.Refused n) = record { refusal = n; absent = 0; flag = 0; offset = 0; len = 0 }
+getOut (get.Refused n) = refusedValue n
 getOut get.Absent = record { refusal = 0; absent = 1; flag = 0; offset = 0; len = 0 }
-getOut (get.At c) = record { refusal = 0; absent = 0; flag = cond (c .flag) 1 0; offset = c .offset; len = c .len }
+getOut (get.At c) = foundValue c
 
 abbrev pub sizeOut : SizeReply → LeafSize
-sizeOut (size.Refused n) = record { refusal = n; bytes = 0 }
-sizeOut (size.Bytes b) = record { refusal = 0; bytes = b }
+sizeOut (sizes.Refused n) = record { refusal = n; bytes = 0 }
+sizeOut (sizes.Bytes b) = record { refusal = 0; bytes = b }

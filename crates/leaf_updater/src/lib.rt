@@ -1,6 +1,7 @@
 // The calls as a firmware programmer links them: document 01's calls under C names with the prefix `leaf_`, refusals by
 // document 01's numbers. No call has a `requires`. An enum can't cross to C, so replies are structs of numbers; `specs/`
 // says which one stands for each case.
+use leaf_node::Cell;
 use leaf_node::GetReply;
 use leaf_node::KeyReply;
 use leaf_node::SizeReply;
@@ -12,7 +13,7 @@ ghost use Rattle.bit_ops.specs.Separate.{sharedBits, separateVerdict, separateL
 ghost use Rattle.leaf_node.specs.Good.{pageVerdict};
 ghost use Rattle.leaf_node.specs.Reply.{keyReply, valueReply, getReply, sizeReply};
 ghost use Rattle.leaf_builder.specs.Rebuild.{rebuildVerdict, rebuildLeaves};
-ghost use Rattle.leaf_updater.specs.Reply.{keyOut, valueOut, getOut, sizeOut};
+ghost use Rattle.leaf_updater.specs.Reply.{keyOut, refusedValue, foundValue, valueOut, getOut, sizeOut};
 
 // ---- keys
 
@@ -89,24 +90,36 @@ fn bit(flag: bool) -> u8
     if flag { 1 } else { 0 }
 }
 
+fn refused_value(n: u8) -> LeafValue
+    ensures { λ r. ⌜ r ≡ refusedValue n ⌝ }
+{
+    LeafValue {
+        refusal: n,
+        absent: 0,
+        flag: 0,
+        offset: 0,
+        len: 0,
+    }
+}
+
+fn found_value(c: Cell) -> LeafValue
+    ensures { λ r. ⌜ r ≡ foundValue c ⌝ }
+{
+    LeafValue {
+        refusal: 0,
+        absent: 0,
+        flag: bit(c.flag),
+        offset: c.offset,
+        len: c.len,
+    }
+}
+
 fn value_out(reply: ValueReply) -> LeafValue
     ensures { λ r. ⌜ r ≡ valueOut reply ⌝ }
 {
     match reply {
-        ValueReply::Refused(n) => LeafValue {
-            refusal: n,
-            absent: 0,
-            flag: 0,
-            offset: 0,
-            len: 0,
-        },
-        ValueReply::At(c) => LeafValue {
-            refusal: 0,
-            absent: 0,
-            flag: bit(c.flag),
-            offset: c.offset,
-            len: c.len,
-        },
+        ValueReply::Refused(n) => refused_value(n),
+        ValueReply::At(c) => found_value(c),
     }
 }
 
@@ -122,13 +135,7 @@ fn get_out(reply: GetReply) -> LeafValue
     ensures { λ r. ⌜ r ≡ getOut reply ⌝ }
 {
     match reply {
-        GetReply::Refused(n) => LeafValue {
-            refusal: n,
-            absent: 0,
-            flag: 0,
-            offset: 0,
-            len: 0,
-        },
+        GetReply::Refused(n) => refused_value(n),
         GetReply::Absent => LeafValue {
             refusal: 0,
             absent: 1,
@@ -136,13 +143,7 @@ fn get_out(reply: GetReply) -> LeafValue
             offset: 0,
             len: 0,
         },
-        GetReply::At(c) => LeafValue {
-            refusal: 0,
-            absent: 0,
-            flag: bit(c.flag),
-            offset: c.offset,
-            len: c.len,
-        },
+        GetReply::At(c) => found_value(c),
     }
 }
 

@@ -8,14 +8,17 @@ use Rattle.leaf_updater.proofs.get_out.Tie as tie
 enum-known-reply : tie.Need-enum-known-reply
 enum-known-reply c = search needs
 
+refused-value-requires : tie.Need-refused-value-requires
+refused-value-requires c κs = search needs
+
 enum-told : tie.Need-enum-told
 enum-told c = search needs
 
 enum-known-reply-2 : tie.Need-enum-known-reply-2
 enum-known-reply-2 c = search needs
 
-bit-requires : tie.Need-bit-requires
-bit-requires c κs = search needs
+found-value-requires : tie.Need-found-value-requires
+found-value-requires c κs = search needs
 
 returns : tie.Need-returns
 returns c = search (get-refused, needs)
@@ -31,9 +34,10 @@ get-out-spec =
     tie.close
     (tie.spec
     enum-known-reply
+    refused-value-requires
     enum-told
     enum-known-reply-2
-    bit-requires
+    found-value-requires
     returns
     returns-2
     returns-3)
