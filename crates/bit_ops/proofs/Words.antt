@@ -7,17 +7,18 @@ use Prim.Native.Nat.{ℕ, _+_, _-_, _*_, _^_, _≤_, _<_}
 use native.Mathlib.Nat.{add-zero}
 use native.Mathlib.Decide.{ℕ-discrete, decLt}
 use native.Mathlib.Omega.{arith}
-use borrow.Author.Tests.{le-ltb}
+use borrow.Author.Tests.{le-ltb, eq-eqb, ne-eqb}
 use lib.Bits.{bitXor}
 use lib.Count.{leadingZeros}
-use lib.Dec.{ltb}
+use lib.Dec.{ltb, eqb}
 use lib.ListN.{length, getD, take, drop, length-drop, take-append-drop}
 use lib.Pow.{pow-add}
 use lib.Seq.{take-add, drop-drop, take-all, getD-drop}
-use Rattle.bit_ops.specs.Key.{Bytes, Key, num, ltKey}
+use Rattle.bit_ops.specs.Key.{Bytes, Key, num, ltKey, eqKey}
 use Rattle.bit_ops.specs.Separate.{shared, sharedBits}
 use Rattle.bit_ops.specs.Steps.{wordAt, Differing}
 use Rattle.bit_ops.proofs.Number.{num-lt, num-append, num-inj, pow256, part-bytes, part-length, rest-lt}
+use Rattle.bit_ops.proofs.Order.{eqKey-of-equal, eqKey-of-different}
 use Rattle.bit_ops.proofs.SharedBits.{shared-same, shared-bits-by-xor}
 use Rattle.bit_ops.proofs.Digits.{lt-digit, shared-digit}
 
@@ -130,6 +131,12 @@ module _ (a b : List ℕ) (at x y : ℕ) (d : Differing a b at x y) where
     | no ne ↦ rw (d .in-a, d .in-b, word-split a at (d .key-a .size) (d .within), word-split b at (d .key-b .size) (d .within), d .before)
         (lt-digit (2 ^ 64) (2 ^ (8 * (24 - 8 * at))) (num (take (8 * at) b)) (wordAt a at) (wordAt b at) (num (drop (8 * at + 8) a)) (num (drop (8 * at + 8) b))
         (after-lt a at (d .key-a) (d .within)) (after-lt b at (d .key-b) (d .within)) (λ w. ne (d .in-a ∙ w ∙ sym (d .in-b))))
+  ]
+
+  pub word-equal : eqb x y ≡ eqKey a b
+  word-equal = elim (ℕ-discrete x y) [
+    | yes e ↦ rw (eq-eqb x y e) (sym (eqKey-of-equal a b (same-words e)))
+    | no ne ↦ rw (ne-eqb x y ne) (sym (eqKey-of-different a b (d .key-a) (d .key-b) (λ q. ne (d .in-a ∙ ap (λ (k : List ℕ). wordAt k at) q ∙ sym (d .in-b)))))
   ]
 
   by-words : shared 64 x y + 64 * at ≡ sharedBits a b

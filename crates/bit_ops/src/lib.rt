@@ -4,7 +4,7 @@ use refusal::EQUAL_KEYS;
 ghost use mathlib.Core.Path.{_≡_};
 ghost use Prim.Native.Nat.{_-_, _^_, _<_, _≤_};
 ghost use lib.ListN.{length};
-ghost use Rattle.bit_ops.specs.Key.{Key, ltKey};
+ghost use Rattle.bit_ops.specs.Key.{Key, ltKey, eqKey};
 ghost use Rattle.bit_ops.specs.Separate.{sharedBits, separateVerdict, separateLeaves};
 ghost use Rattle.bit_ops.specs.Steps.{wordAt, Differing, clearedFrom, cutAfter};
 
@@ -66,6 +66,15 @@ pub fn less(a: &[u8], b: &[u8]) -> bool
 {
     let d = first_difference(a, b);
     d.x < d.y
+}
+
+// Whether a and b are one key.
+pub fn equal(a: &[u8], b: &[u8]) -> bool
+    requires { ⌜ (length (now a) ≡ 32) × (length (now b) ≡ 32) ⌝ }
+    ensures { λ r. ⌜ r ≡ eqKey (now (a .entry)) (now (b .entry)) ⌝ }
+{
+    let d = first_difference(a, b);
+    d.x == d.y
 }
 
 // `prefix_len` of slices. Equal keys need no case of their own: of their last words no bit differs.
