@@ -11,7 +11,7 @@ use lib.Dec.{ltb, leb}
 use lib.ListN.{length, length-append}
 use Rattle.leaf_node.specs.Limits.{bodyLimit, PageSize}
 use Rattle.leaf_node.specs.Record.{Record, cost, body}
-use Rattle.leaf_model.specs.Basics.{All}
+use Rattle.leaf_node.specs.Fits.{All}
 use Rattle.leaf_model.specs.Cut.{Cut, nothingCut, withLeaf, targetOf, Taken, takeUntil, takeLeaves, cutAsWritten, cut, cutAll}
 use Rattle.leaf_model.specs.Work.{Work, pending, finished, plan, leavesOf, workAfter, given, digested}
 use Rattle.leaf_model.proofs.Lists.{all-head, all-tail, all-map, all-right, body-append}

@@ -11,8 +11,8 @@ use lib.ListN.{length}
 use Rattle.bit_ops.specs.Key.{num, ltKey}
 use Rattle.leaf_node.specs.Limits.{valueLimit}
 use Rattle.leaf_node.specs.Record.{Record}
-use Rattle.leaf_model.specs.Basics.{All, nil, cons}
-use Rattle.leaf_model.specs.Work.{Turn, Open, Waiting, Done, Work, Leaf, Base, NextBase, RemoveCutoff, hasKeyLength, belowCutoff, orElse, current, withBase, withoutCutoff, awaitsBase, reachesCutoff, keysRise, withinBounds, goodBase, allowed, effect}
+use Rattle.leaf_node.specs.Fits.{All, nil, cons}
+use Rattle.leaf_model.specs.Work.{Turn, Open, Waiting, Done, Work, Leaf, Base, NextBase, RemoveCutoff, hasKeyLength, belowCutoff, orElse, current, withBase, awaitsBase, reachesCutoff, keysRise, withinBounds, goodBase, allowed, effect}
 use Rattle.leaf_model.specs.Tally.{tallied, openedOn, opened, goodOpening}
 use Rattle.leaf_model.specs.Claim.{Lt, Le, Rising, rise[], rise∷, recordsOf}
 use Rattle.leaf_model.proofs.Tests.{clash, none-is-not-some, and-left, and-right}
@@ -121,24 +121,21 @@ module _ (size : ℕ) (w : Work) (g : List Leaf) (t : List Record) (h : Invarian
           below-cutoff = all-append (all-map (λ r p. cutoff-down (b .cutoff) (r .key) s p (f .separator-below-cutoff)) below) (f .below-cutoff);
           light = all-append (all-left (w .listed) (w .rest) (h .light)) (f .light);
           key-lengths = all-append (h .key-lengths) (f .key-lengths);
-          at-turn = record {
-            past = all-map (λ r p k a. lt-of-lt-of-le p (le-of-not s k (and-left (not (ltKey k s)) _ a))) (rw e at below);
-            floor-right = r .floor-right;
-          };
+          floor-above-separator = r .floor-right;
+          floor-above-latest = le-refl (num s);
+          latest-below-cutoff = f .separator-below-cutoff;
+          at-turn = record { past = all-map (λ r p k a. lt-of-lt-of-le p (le-of-not s k (and-left (not (ltKey k s)) _ a))) (rw e at below) };
         }
 
   -- ---- cutoff removal
 
   module _ (ok : allowed size w RemoveCutoff ≡ true) where
-    removal : (o : Option (List ℕ)) → w .cutoff ≡ o → Invariant size (withoutCutoff w o) g t
-    removal none e =
+    pub cutoff-removal-keeps-the-invariant : Invariant size (effect size w RemoveCutoff) g t
+    cutoff-removal-keeps-the-invariant =
         let f = at-waiting size (w .turn) w g ok (h .at-turn) in
-        none-is-not-some (sym e ∙ f .cutoff-is)
-    removal (some c) e =
-        let f = at-waiting size (w .turn) w g ok (h .at-turn) in
-        let same-bound : f .bound ≡ c = Option·some-injective _ _ (sym (f .cutoff-is) ∙ e) in
+        let c = f .bound in
         let q : t ≡ recordsOf g ++ w .listed = no-rest-tally (recordsOf g) (w .listed) (w .rest) t (h .tally) (f .no-rest) in
-        let below : All (λ r. Lt (r .key) c) t = all-map (λ r p. lt-of-cutoff (w .cutoff) (r .key) c p e) (h .below-cutoff) in
+        let below : All (λ r. Lt (r .key) (w .floor)) t = rw (f .floor-is) (all-map (λ r p. lt-of-cutoff (w .cutoff) (r .key) c p (f .cutoff-is)) (h .below-cutoff)) in
         record {
           tally = rw append-nil (sym q);
           rising = h .rising;
@@ -149,14 +146,11 @@ module _ (size : ℕ) (w : Work) (g : List Leaf) (t : List Record) (h : Invarian
           below-cutoff = all-map (λ r p. refl) below;
           light = rw append-nil (all-left (w .listed) (w .rest) (h .light));
           key-lengths = h .key-lengths;
-          at-turn = record {
-            past = all-map (λ r p k a. lt-of-lt-of-le p (le-of-not c k (and-left (not (ltKey k c)) _ a))) (rw q at below);
-            floor-right = rw (f .override-is) (le-of-lt (rw same-bound at (f .separator-below-bound)));
-          };
+          floor-above-separator = h .floor-above-separator;
+          floor-above-latest = h .floor-above-latest;
+          latest-below-cutoff = refl;
+          at-turn = record { past = all-map (λ r p k a. lt-of-lt-of-le p (le-of-not (w .floor) k (and-left (not (ltKey k (w .floor))) _ a))) (rw q at below) };
         }
-
-    pub cutoff-removal-keeps-the-invariant : Invariant size (effect size w RemoveCutoff) g t
-    cutoff-removal-keeps-the-invariant = removal (w .cutoff) refl
 
 -- ---- opening
 
@@ -173,7 +167,10 @@ opening-on-a-base size b ok =
       below-cutoff = f .below-cutoff;
       light = f .light;
       key-lengths = f .key-lengths;
-      at-turn = record { past = nil; floor-right = le-refl (num (b .separator)) };
+      floor-above-separator = le-refl (num (b .separator));
+      floor-above-latest = le-refl (num (b .separator));
+      latest-below-cutoff = f .separator-below-cutoff;
+      at-turn = record { past = nil };
     }
 
 pub opening-has-the-invariant : (size : ℕ) (o : Option Base) → goodOpening size o ≡ true → Invariant size (opened o .work) (opened o .leaves) (opened o .tally)

@@ -10,7 +10,8 @@ use lib.Dec.{ltb, leb}
 use lib.ListN.{length}
 use Rattle.leaf_node.specs.Limits.{bodyLimit, mergeBelow, bulkAbove, bulkTarget, valueLimit, PageSize}
 use Rattle.leaf_node.specs.Record.{Record, cost, body}
-use Rattle.leaf_model.specs.Basics.{All, nil, cons, joined, nonempty}
+use Rattle.leaf_node.specs.Fits.{All, nil, cons}
+use Rattle.leaf_model.specs.Basics.{joined, nonempty}
 use Rattle.leaf_model.specs.Cut.{Cut, nothingCut, withLeaf, targetOf, cut, cutAll}
 use Rattle.leaf_model.proofs.Tests.{none-is-not-some}
 use Rattle.leaf_model.proofs.Lists.{all-head, all-tail, all-map, body-append}

@@ -9,7 +9,7 @@ use native.Mathlib.Omega.{arith}
 use borrow.Author.Tests.{eqb-true, eqb-false, ne-eqb}
 use Rattle.bit_ops.specs.Key.{num, ltKey, eqKey}
 use Rattle.leaf_node.specs.Record.{Record}
-use Rattle.leaf_model.specs.Basics.{All, nil, cons}
+use Rattle.leaf_node.specs.Fits.{All, nil, cons}
 use Rattle.leaf_model.specs.Work.{Change, recordsBelow, recordsAbove, inserted}
 use Rattle.leaf_model.specs.Tally.{strike, place, placeAll}
 use Rattle.leaf_model.specs.Claim.{Lt, Rising, rise[], rise∷}

@@ -4,20 +4,21 @@ use mathlib.Core.Bool.{true, not}
 use mathlib.Core.Option.{Option, none, some, Option·some-injective}
 use mathlib.Core.List.{List, [], _∷_, _++_, append-nil, append-assoc}
 use Prim.Native.Nat.{ℕ, _≤_, _<_}
-use native.Mathlib.Nat.{le-trans, lt-trans}
+use native.Mathlib.Nat.{le-trans, le-of-lt, lt-trans}
 use borrow.Author.Tests.{leb-true}
 use lib.ListN.{length}
 use Rattle.bit_ops.specs.Key.{ltKey}
 use Rattle.leaf_node.specs.Limits.{mergeBelow, valueLimit, PageSize}
 use Rattle.leaf_node.specs.Record.{Record, body}
-use Rattle.leaf_model.specs.Basics.{All, joined, nonempty}
+use Rattle.leaf_node.specs.Fits.{All}
+use Rattle.leaf_model.specs.Basics.{joined, nonempty}
 use Rattle.leaf_model.specs.Cut.{Cut}
-use Rattle.leaf_model.specs.Work.{Turn, Open, Waiting, Done, Work, Leaf, Change, Ingest, Digest, pending, hasKeyLength, belowCutoff, letsIn, current, recordsBelow, inserted, ingested, turnAfter, separatorAfter, planned, given, digested, isOpen, isWaiting, lightChange, allowed}
+use Rattle.leaf_model.specs.Work.{Turn, Open, Waiting, Done, Work, Leaf, Change, Ingest, Digest, pending, hasKeyLength, belowCutoff, letsIn, orElse, current, recordsBelow, inserted, ingested, turnAfter, separatorAfter, overrideAfter, floorAfter, planned, given, digested, isOpen, isWaiting, lightChange, allowed}
 use Rattle.leaf_model.specs.Tally.{strike, placeAll, tallied}
 use Rattle.leaf_model.specs.Claim.{Lt, Le, Rising, recordsOf, LeafGood}
 use Rattle.leaf_model.proofs.Tests.{clash, none-is-not-some, and-left, and-right}
 use Rattle.leaf_model.proofs.Lists.{all-append, all-left, all-right, all-map, nonempty-append}
-use Rattle.leaf_model.proofs.Keys.{lt-of-test, le-of-not, rising-right}
+use Rattle.leaf_model.proofs.Keys.{lt-of-test, le-of-not, lt-of-cutoff, rising-right}
 use Rattle.leaf_model.proofs.Cutting.{whole, Light}
 use Rattle.leaf_model.proofs.Plan.{Sized, leaves-and-kept-are-the-records, leaves-have-right-sizes, kept-records-wait-for-a-merge}
 use Rattle.leaf_model.proofs.Separators.{AtOrAbove, BelowCutoff, leaves-have-the-cut-records, records-append, leaves-are-good, kept-records-are-above-their-separator, Links, links-append, leaves-of-a-digest-are-linked, digest-starts-at-its-separator, override-comes-with-records, records-come-with-override, kept-records-are-above-the-override, separator-is-below-cutoff}
@@ -26,12 +27,11 @@ use Rattle.leaf_model.proofs.Ingesting.{Low, split, inserted-all, tally
 abbrev pub HasKeyLength : Record → Type 0
 HasKeyLength r = hasKeyLength (r .key) ≡ true
 
--- open: all that was given out or taken up lies below each key that is still let in, and such a key is at or above the current separator
+-- open: all that was given out or taken up lies below each key that is still let in
 pub record OpenFacts (w : Work) (g : List Leaf) : Type 0 where
   pub past : All (λ r. (k : List ℕ) → letsIn w k ≡ true → Lt (r .key) k) (recordsOf g ++ w .listed)
-  pub floor-right : Le (current w) (w .floor)
 
--- waiting: an override below a cutoff, and too few records for a leaf
+-- waiting: an override below a cutoff, which is the floor, and too few records for a leaf
 pub record WaitFacts (size : ℕ) (w : Work) : Type 0 where
   pub no-rest : w .rest ≡ []
   pub separator : List ℕ
@@ -39,6 +39,7 @@ pub record WaitFacts (size : ℕ) (w : Work) : Type 0 where
   pub bound : List ℕ
   pub cutoff-is : w .cutoff ≡ some bound
   pub separator-below-bound : Lt separator bound
+  pub floor-is : w .floor ≡ bound
   pub few : body (w .listed) < mergeBelow size
 
 -- done: nothing pending
@@ -69,6 +70,10 @@ pub record Invariant (size : ℕ) (w : Work) (g : List Leaf) (t : List Record) :
   pub light : All (Light size) (pending w)
   -- pages hold keys of 32 bytes alone
   pub key-lengths : All HasKeyLength t
+  -- a key that is let in is at or above the current separator, also where a digest clears the override, or sets the floor to the cutoff
+  pub floor-above-separator : Le (current w) (w .floor)
+  pub floor-above-latest : Le (w .latest) (w .floor)
+  pub latest-below-cutoff : belowCutoff (w .cutoff) (w .latest) ≡ true
   pub at-turn : AtTurn size (w .turn) w g
 
 pub at-open : (size : ℕ) (t : Turn) (w : Work) (g : List Leaf) → isOpen t ≡ true → AtTurn size t w g → OpenFacts w g
@@ -116,19 +121,33 @@ module _ (size : ℕ) (w : Work) (g : List Leaf) (t : List Record) (h : Invarian
           leaves = h .leaves;
           links = h .links;
           override-has-records = λ s q. nonempty-append (w .listed) _ (h .override-has-records s q);
-          above-separator = pending-all k _ (w .listed) (w .rest) c v (h .above-separator) (λ d q. le-trans (o .floor-right) (le-of-not (w .floor) k (and-left _ _ let-in)));
+          above-separator = pending-all k _ (w .listed) (w .rest) c v (h .above-separator) (λ d q. le-trans (h .floor-above-separator) (le-of-not (w .floor) k (and-left _ _ let-in)));
           below-cutoff = rw (← tally-is) (all-append (all-left (recordsOf g) _ cut-all) (pending-all k _ (w .listed) (w .rest) c v (all-right (recordsOf g) _ cut-all) (λ d q. below)));
           light = pending-all k _ (w .listed) (w .rest) c v (h .light) (λ d q. change-light size c d light-c q);
           key-lengths = rw (← tally-is) (all-append (all-left (recordsOf g) _ lengths-all) (pending-all k _ (w .listed) (w .rest) c v (all-right (recordsOf g) _ lengths-all) (λ d q. length-k)));
+          floor-above-separator = h .floor-above-separator;
+          floor-above-latest = h .floor-above-latest;
+          latest-below-cutoff = h .latest-below-cutoff;
           at-turn = record {
             past = rw (← append-assoc (recordsOf g) (w .listed) (recordsBelow k (w .rest) ++ inserted k c))
                 (all-append (all-map (λ r p k′ q. lt-trans p (let-in-above w k k′ q)) l)
                 (all-append (all-map (λ r p k′ q. lt-trans p (let-in-above w k k′ q)) (split k (w .rest) v .low)) (inserted-all k _ c (λ d e k′ q. let-in-above w k k′ q))));
-            floor-right = o .floor-right;
           };
         }
 
   -- ---- digest
+
+  floor-after : (f s l : List ℕ) (c : Option (List ℕ)) (leaves : List (List Record)) (left : List Record) → Le l f → belowCutoff c l ≡ true
+      → (nonempty left ≡ true → (b : List ℕ) × (c ≡ some b) × Lt (separatorAfter s leaves left) b)
+      → Le (orElse (overrideAfter s leaves left) l) (floorAfter f c left) × Le l (floorAfter f c left)
+  floor-after f s l c leaves [] low below kept = (low, low)
+  floor-after f s l c leaves (r ∷ rs) low below kept =
+      let k = kept refl in
+      rw (k .1) (le-of-lt (k .2), le-of-lt (lt-of-cutoff c l (k .0) below (k .1)))
+
+  floor-waiting : (f b : List ℕ) (c : Option (List ℕ)) (left : List Record) → nonempty left ≡ true → c ≡ some b → floorAfter f c left ≡ b
+  floor-waiting f b c [] n e = clash n refl
+  floor-waiting f b c (r ∷ rs) n e = rw e
 
   at-turn-after : (left : List Record) (w′ : Work) (g′ : List Leaf) → (left ≡ [] → DoneFacts w′)
       → (nonempty left ≡ true → WaitFacts size w′) → AtTurn size (turnAfter left) w′ g′
@@ -147,6 +166,10 @@ module _ (size : ℕ) (w : Work) (g : List Leaf) (t : List Record) (h : Invarian
         let below : All (BelowCutoff (w .cutoff)) (whole c) = rw e (all-right (recordsOf g) _ (rw (h .tally) (h .below-cutoff))) in
         let light-c : All (Light size) (whole c) = rw e (h .light) in
         let above-after : All (AtOrAbove (separatorAfter s (c .leaves) (c .left))) (c .left) = kept-records-are-above-their-separator s z rising-c above in
+        let kept : nonempty (c .left) ≡ true → (b : List ℕ) × (w .cutoff ≡ some b) × Lt (separatorAfter s (c .leaves) (c .left)) b = λ q.
+        let b = kept-records-wait-for-a-merge size (w .cutoff) (pending w) q in
+        (b .0, b .1, separator-is-below-cutoff _ (b .0) (w .cutoff) (c .left) q above-after (all-right (joined (c .leaves)) (c .left) below) (b .1)) in
+        let floors = floor-after (w .floor) s (w .latest) (w .cutoff) (c .leaves) (c .left) (h .floor-above-latest) (h .latest-below-cutoff) kept in
         record {
           tally = rw (records-append g (given size w), leaves-have-the-cut-records s (w .cutoff) (nonempty (c .left)) (c .leaves) (c .left), append-nil (c .left))
               (append-assoc (recordsOf g) (joined (c .leaves)) (c .left) ∙ ap (λ x. recordsOf g ++ x) e ∙ h .tally);
@@ -160,6 +183,9 @@ module _ (size : ℕ) (w : Work) (g : List Leaf) (t : List Record) (h : Invarian
           below-cutoff = h .below-cutoff;
           light = rw append-nil (all-right (joined (c .leaves)) (c .left) light-c);
           key-lengths = h .key-lengths;
+          floor-above-separator = floors .0;
+          floor-above-latest = floors .1;
+          latest-below-cutoff = h .latest-below-cutoff;
           at-turn = at-turn-after (c .left) (digested size w) (g ++ given size w)
               (λ q. record { no-listed = q; no-rest = refl; no-override = rw q })
               (λ q. let b = kept-records-wait-for-a-merge size (w .cutoff) (pending w) q in
@@ -169,7 +195,8 @@ module _ (size : ℕ) (w : Work) (g : List Leaf) (t : List Record) (h : Invarian
                 override-is = records-come-with-override s (c .leaves) (c .left) q;
                 bound = b .0;
                 cutoff-is = b .1;
-                separator-below-bound = separator-is-below-cutoff _ (b .0) (w .cutoff) (c .left) q above-after (all-right (joined (c .leaves)) (c .left) below) (b .1);
+                separator-below-bound = kept q .2;
+                floor-is = floor-waiting (w .floor) (b .0) (w .cutoff) (c .left) q (b .1);
                 few = b .2;
               });
         }

@@ -5,7 +5,8 @@ use mathlib.Core.List.{List, [], _∷_, _++_, append-assoc}
 use Prim.Native.Nat.{_+_}
 use native.Mathlib.Omega.{arith}
 use Rattle.leaf_node.specs.Record.{Record, body}
-use Rattle.leaf_model.specs.Basics.{All, nil, cons, joined, nonempty}
+use Rattle.leaf_node.specs.Fits.{All, nil, cons}
+use Rattle.leaf_model.specs.Basics.{joined, nonempty}
 use Rattle.leaf_model.proofs.Tests.{clash}
 
 module _ {A : Type 0} {P : A → Type 0} where

@@ -11,7 +11,8 @@ use borrow.Author.Tests.{leb-true, leb-false}
 use lib.ListN.{length}
 use Rattle.leaf_node.specs.Limits.{bodyLimit, mergeBelow, pagesAsked, PageSize}
 use Rattle.leaf_node.specs.Record.{Record, body}
-use Rattle.leaf_model.specs.Basics.{All, nil, cons, joined, nonempty}
+use Rattle.leaf_node.specs.Fits.{All, nil, cons}
+use Rattle.leaf_model.specs.Basics.{joined, nonempty}
 use Rattle.leaf_model.specs.Cut.{Cut, cutAll}
 use Rattle.leaf_model.specs.Work.{closes, finish, plan}
 use Rattle.leaf_model.proofs.Tests.{clash}

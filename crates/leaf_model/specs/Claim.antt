@@ -7,7 +7,8 @@ use Prim.Native.Nat.{ℕ, _≤_, _<_}
 use Rattle.bit_ops.specs.Key.{num}
 use Rattle.leaf_node.specs.Limits.{bodyLimit, mergeBelow}
 use Rattle.leaf_node.specs.Record.{Record, body}
-use Rattle.leaf_model.specs.Basics.{All, joined, nonempty}
+use Rattle.leaf_node.specs.Fits.{All}
+use Rattle.leaf_model.specs.Basics.{joined, nonempty}
 use Rattle.leaf_model.specs.Work.{Leaf, pending, lastKey}
 use Rattle.leaf_model.specs.Tally.{Run}
 

@@ -182,6 +182,11 @@ abbrev pub overrideAfter : List ℕ → List (List Record) → List Record → O
 overrideAfter s leaves [] = none
 overrideAfter s leaves (r ∷ rs) = some (separatorAfter s leaves (r ∷ rs))
 
+-- "after a merge request at or above the cutoff it named": a digest that keeps records lets in no key below the cutoff
+abbrev pub floorAfter : List ℕ → Option (List ℕ) → List Record → List ℕ
+floorAfter floor cutoff [] = floor
+floorAfter floor cutoff (r ∷ rs) = orElse cutoff floor
+
 -- the leaves that a digest gives, and the work after it, by what it cuts and keeps
 abbrev pub leavesOf : Work → Cut → List Leaf
 leavesOf w c = withSeparators (current w) (w .cutoff) (nonempty (c .left)) (c .leaves) (c .left)
@@ -194,7 +199,7 @@ workAfter w c = record {
   override = overrideAfter (current w) (c .leaves) (c .left);
   latest = w .latest;
   cutoff = w .cutoff;
-  floor = w .floor;
+  floor = floorAfter (w .floor) (w .cutoff) (c .left);
   last = w .last;
 }
 
@@ -223,17 +228,16 @@ withBase w b = record {
   last = w .last;
 }
 
--- "the work is open again with no base"; keys must be "after a merge request at or above the cutoff it named". A waiting work has a cutoff.
-abbrev pub withoutCutoff : Work → Option (List ℕ) → Work
-withoutCutoff w none = w
-withoutCutoff w (some c) = record {
+-- "the work is open again with no base"; the floor stays at the cutoff that the merge request named
+abbrev pub withoutCutoff : Work → Work
+withoutCutoff w = record {
   turn = Open;
   listed = w .listed;
   rest = [];
   override = w .override;
   latest = w .latest;
   cutoff = none;
-  floor = c;
+  floor = w .floor;
   last = w .last;
 }
 
@@ -291,7 +295,7 @@ abbrev pub effect : ℕ → Work → Call → Work
 effect size w (Ingest k c) = ingested w k c
 effect size w Digest = digested size w
 effect size w (NextBase b) = withBase w b
-effect size w RemoveCutoff = withoutCutoff w (w .cutoff)
+effect size w RemoveCutoff = withoutCutoff w
 
 abbrev pub gives : ℕ → Work → Call → List Leaf
 gives size w (Ingest k c) = []
