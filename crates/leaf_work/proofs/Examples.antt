@@ -1,0 +1,215 @@
+-- Computed examples on pages of 200 bytes, where all limits are small: a merge and a cutoff removal through the calls, and for each clause of soundness
+-- a work that breaks it alone. Assumes nothing.
+use mathlib.Core.Path.{_≡_, refl}
+use mathlib.Core.Bool.{true, false}
+use mathlib.Core.Option.{none, some}
+use mathlib.Core.List.{List, [], _∷_, _++_}
+use Prim.Native.Nat.{ℕ}
+use lib.ListN.{replicate}
+use Rattle.bit_ops.specs.Key.{num, bytesOf, ltKey, eqKey}
+use Rattle.bit_ops.specs.Steps.{zeros}
+use Rattle.bit_ops.specs.Separate.{shared, sharedBits, leading, separateOf}
+use Rattle.leaf_node.specs.Limits.{bodyLimit, recordLimit, valueLimit, mergeBelow, bulkAbove, bulkTarget}
+use Rattle.leaf_node.specs.Record.{Record, values, total}
+use Rattle.leaf_node.specs.Page.{word, count, keyAt, numberAt, flagAt, offsetAt, start, lengthAt, valueAt, recordAt, run, recordsBetween, records, valuesSize}
+use Rattle.leaf_node.specs.Good.{allBelow, offsetStep, offsetInside, offsetsRight, valueFits, valuesFit, keyStep, keysRise, pageVerdict}
+use Rattle.leaf_node.specs.Search.{placeFrom}
+use Rattle.leaf_node.specs.Build as built
+use Rattle.leaf_node.specs.Build.{le16, tagged, pointers, build}
+use Rattle.leaf_model.specs.Cut.{targetOf, cut, cutAll}
+use Rattle.leaf_model.specs.Work.{zeroKey, plan}
+use Rattle.leaf_work.specs.declared.Work.{Work}
+use Rattle.leaf_work.specs.declared.Entry.{Entry}
+use Rattle.leaf_work.specs.Lent.{blank, insertAt, chunkOf}
+use Rattle.leaf_work.specs.Pending.{held, inBase, chunkPlaces, entryPlaces}
+use Rattle.leaf_work.specs.Sound.{sound}
+use Rattle.leaf_work.specs.TakingUp.{stop, drops}
+use Rattle.leaf_work.specs.Verdict.{with-base, with-none, baseVerdict, keysVerdict, lentVerdict, openVerdict, ingestVerdict, digestVerdict, nextBaseVerdict, removeVerdict}
+use Rattle.leaf_work.specs.Outcome.{Quiet, IngestRefused, Opened, openWork, openOf, Ingested, ingestOn, ingestOf, Accepted, Refused, nextBaseOf, removeCutoffOf}
+use Rattle.leaf_work.specs.Digest.{Finished, Merge, Digested, digestOn, digestOf}
+
+abbrev size : ℕ
+size = 200
+
+abbrev keyOf : ℕ → List ℕ
+keyOf b = b ∷ zeros 31
+
+abbrev recordOf : ℕ → ℕ → Record
+recordOf k n = record { key = keyOf k; value = replicate n k; flag = true }
+
+abbrev list : List Entry
+list = replicate 6 blank
+
+abbrev store : List ℕ
+store = zeros 200
+
+-- ---- a merge
+
+abbrev firstPage : List ℕ
+firstPage = build size (recordOf 10 5 ∷ [])
+
+abbrev secondPage : List ℕ
+secondPage = build size (recordOf 60 30 ∷ [])
+
+-- a base of one record up to the key 50; a record of key 20 is put; the digest waits
+abbrev opens : Opened
+opens = openOf size (with-base firstPage zeroKey true (keyOf 50)) (openWork (with-none false)) list store
+
+abbrev puts : Ingested
+puts = ingestOf size (opens .work) (opens .list) (opens .store) firstPage (keyOf 20) (some (record { value = replicate 6 20; flag = true }))
+
+abbrev waits : Digested
+waits = digestOf size (puts .work) (puts .list) (puts .store) firstPage (replicate 200 9) (replicate 65 9)
+
+-- the second base comes, and is digested with what was kept
+abbrev joins : Digested
+joins = digestOf size (nextBaseOf size (waits .work) (waits .list) (waits .store) secondPage (keyOf 50) false zeroKey .work) (waits .list) (waits .store) secondPage (replicate 400 9) (replicate 130 9)
+
+-- or the cutoff is removed
+abbrev open-again : Work
+open-again = removeCutoffOf size (waits .work) (waits .list) (waits .store) .work
+
+abbrev ends : Digested
+ends = digestOf size open-again (waits .list) (waits .store) [] (replicate 200 9) (replicate 65 9)
+
+pub record Merges : Type 0 where
+  pub opening-is-accepted : opens .reply ≡ Accepted
+  pub first-digest : waits .reply ≡ Merge 0 (keyOf 50)
+  pub it-writes-nothing : waits .area ≡ replicate 200 9
+  pub it-keeps-inserts : waits .list ≡ insertAt 0 5 (keyOf 10) 1 ∷ insertAt 5 11 (keyOf 20) 1 ∷ replicate 4 blank
+  pub its-floor : waits .work .floor ≡ keyOf 50
+  -- the joined leaf starts where the first base did
+  pub second-digest : joins .reply ≡ Finished 1
+  pub joined-page : joins .area ≡ build size (recordOf 10 5 ∷ recordOf 20 6 ∷ recordOf 60 30 ∷ []) ++ replicate 200 9
+  pub joined-ticket : joins .tickets ≡ (2 ∷ zeroKey) ++ replicate 97 9
+  pub nothing-is-left : joins .list ≡ list
+  -- after a cutoff removal keys below the cutoff stay refused
+  pub key-below : ingestOf size open-again (waits .list) (waits .store) [] (keyOf 49) none .reply ≡ IngestRefused 13
+  pub key-at : ingestOf size open-again (waits .list) (waits .store) [] (keyOf 50) none .reply ≡ Quiet
+  pub digest-after-removal : ends .reply ≡ Finished 1
+  pub page-after-removal : ends .area ≡ build size (recordOf 10 5 ∷ recordOf 20 6 ∷ [])
+  -- "both refuse an open work with 9 without testing 8"; an unknown turn is 8
+  pub removal-when-open : removeCutoffOf size (puts .work) (puts .list) (puts .store) .reply ≡ Refused 9
+  pub removal-when-done : removeCutoffOf size (ends .work) (ends .list) (ends .store) .reply ≡ Refused 9
+
+pub a-merge-joins-both-bases : Merges
+unfolding num bytesOf ltKey eqKey shared sharedBits leading separateOf bodyLimit recordLimit valueLimit mergeBelow bulkAbove bulkTarget values total word count keyAt numberAt flagAt offsetAt start lengthAt valueAt recordAt run recordsBetween records valuesSize allBelow offsetStep offsetInside offsetsRight valueFits valuesFit keyStep keysRise pageVerdict placeFrom le16 tagged built.zeros pointers build targetOf cut cutAll plan held inBase chunkPlaces entryPlaces sound stop drops baseVerdict keysVerdict lentVerdict openVerdict ingestVerdict digestVerdict nextBaseVerdict removeVerdict openOf ingestOn digestOn nextBaseOf removeCutoffOf
+a-merge-joins-both-bases = record {
+  opening-is-accepted = refl;
+  first-digest = refl;
+  it-writes-nothing = refl;
+  it-keeps-inserts = refl;
+  its-floor = refl;
+  second-digest = refl;
+  joined-page = refl;
+  joined-ticket = refl;
+  nothing-is-left = refl;
+  key-below = refl;
+  key-at = refl;
+  digest-after-removal = refl;
+  page-after-removal = refl;
+  removal-when-open = refl;
+  removal-when-done = refl;
+}
+
+-- ---- soundness
+
+-- a work record, its fields in order
+abbrev work : ℕ → ℕ → ℕ → ℕ → ℕ → ℕ → ℕ → List ℕ → ℕ → List ℕ → ℕ → List ℕ → List ℕ → ℕ → List ℕ → Work
+work turn based low used filled count bytes latest cut cutoff over overriding floor taken last = record {
+  turn = turn;
+  based = based;
+  low = low;
+  used = used;
+  filled = filled;
+  count = count;
+  bytes = bytes;
+  latest = latest;
+  cut = cut;
+  cutoff = cutoff;
+  over = over;
+  overriding = overriding;
+  floor = floor;
+  taken = taken;
+  last = last;
+}
+
+-- inserts of empty values under these keys, then blanks
+abbrev inserts : List ℕ → List Entry
+inserts [] = []
+inserts (k ∷ ks) = insertAt 0 0 (keyOf k) 0 ∷ inserts ks
+
+abbrev verdict : Work → List Entry → List ℕ → ℕ
+verdict w es page = lentVerdict size w (es ++ list) store page
+
+abbrev z : List ℕ
+z = zeroKey
+
+abbrev emptyPage : List ℕ
+emptyPage = build size []
+
+abbrev threeRecords : List ℕ
+threeRecords = build size (recordOf 10 0 ∷ recordOf 11 0 ∷ recordOf 12 0 ∷ [])
+
+pub record EachClause : Type 0 where
+  -- a work that breaks none
+  pub none-broken : verdict (work 1 1 1 1 0 1 0 z 1 (keyOf 50) 0 z z 1 (keyOf 10)) (inserts (9 ∷ [])) threeRecords ≡ 0
+  pub known-turn : verdict (work 4 0 0 0 0 0 0 z 0 z 0 z z 0 z) [] [] ≡ 8
+  pub zeroed-memory : verdict (work 0 0 0 0 0 0 0 z 0 z 0 z z 0 z) [] [] ≡ 8
+  pub known-flags : verdict (work 1 0 0 0 0 0 0 z 0 z 0 z z 2 (keyOf 1)) [] [] ≡ 8
+  pub entry-flag : verdict (work 1 0 0 1 0 1 0 z 0 z 0 z z 1 (keyOf 9)) (insertAt 0 0 (keyOf 9) 2 ∷ []) [] ≡ 8
+  pub empty-chunk : verdict (work 1 1 1 1 0 0 0 z 0 z 0 z z 1 (keyOf 10)) (chunkOf 1 1 0 ∷ []) threeRecords ≡ 8
+  pub unused-entries : verdict (work 1 0 0 0 0 0 0 z 0 z 0 z z 0 z) (inserts (0 ∷ [])) [] ≡ 8
+  pub unused-bytes : lentVerdict size (work 1 0 0 0 0 0 0 z 0 z 0 z z 0 z) list (zeros 199 ++ (1 ∷ [])) [] ≡ 8
+  pub room : lentVerdict size (work 1 1 0 4 0 4 0 z 0 z 0 z z 1 (keyOf 4)) (inserts (1 ∷ 2 ∷ 3 ∷ 4 ∷ []) ++ replicate 2 blank) store threeRecords ≡ 8
+  pub rising-keys : verdict (work 1 0 0 2 0 2 0 z 0 z 0 z z 1 (keyOf 2)) (inserts (2 ∷ 1 ∷ [])) [] ≡ 8
+  pub rest-above-last : verdict (work 1 1 0 0 0 0 0 z 0 z 0 z z 1 (keyOf 10)) [] threeRecords ≡ 8
+  pub listed-past : verdict (work 1 0 0 1 0 1 0 z 0 z 0 z z 0 z) (inserts (5 ∷ [])) [] ≡ 8
+  pub passed-part : verdict (work 1 0 1 0 0 0 0 z 0 z 0 z z 0 z) [] [] ≡ 8
+  pub light-values : verdict (work 1 0 0 1 35 1 35 z 0 z 0 z z 1 (keyOf 9)) (insertAt 0 35 (keyOf 9) 0 ∷ []) [] ≡ 8
+  pub gauge : verdict (work 1 0 0 0 0 1 0 z 0 z 0 z z 0 z) [] [] ≡ 8
+  pub bounds : verdict (work 1 1 0 1 0 1 0 (keyOf 10) 0 z 0 z (keyOf 10) 0 z) (inserts (5 ∷ [])) emptyPage ≡ 8
+  pub last-below-cutoff : verdict (work 1 1 0 0 0 0 0 z 1 (keyOf 50) 0 z z 1 (keyOf 60)) [] emptyPage ≡ 8
+  pub cutoff-with-base : verdict (work 1 0 0 0 0 0 0 z 1 (keyOf 50) 0 z z 0 z) [] [] ≡ 8
+  pub cutoff-above-separator : verdict (work 1 1 0 0 0 0 0 (keyOf 50) 1 (keyOf 50) 0 z (keyOf 50) 0 z) [] emptyPage ≡ 8
+  pub override-with-inserts : verdict (work 1 0 0 0 0 0 0 z 0 z 1 (keyOf 3) (keyOf 3) 0 z) [] [] ≡ 8
+  pub waiting : verdict (work 2 0 0 0 0 0 0 z 0 z 0 z z 0 z) [] [] ≡ 8
+  pub done : verdict (work 3 0 0 1 0 1 0 z 0 z 0 z z 1 (keyOf 5)) (inserts (5 ∷ [])) [] ≡ 8
+  pub floor-above-separator : verdict (work 1 0 0 1 0 1 0 z 0 z 1 (keyOf 9) z 1 (keyOf 9)) (inserts (9 ∷ [])) [] ≡ 8
+  -- a digest would be accepted, clear the override, and leave a floor below the current separator
+  pub floor-above-latest : verdict (work 1 0 0 1 0 1 0 (keyOf 5) 0 z 1 z (keyOf 3) 0 z) (inserts (1 ∷ [])) [] ≡ 8
+  pub floor-of-a-base : verdict (work 1 1 0 0 0 0 0 z 0 z 0 z (keyOf 20) 0 z) [] emptyPage ≡ 8
+  pub floor-when-waiting : verdict (work 2 1 0 1 0 1 0 z 1 (keyOf 50) 1 z (keyOf 49) 0 z) (inserts (10 ∷ [])) [] ≡ 8
+  pub absent-keys : verdict (work 1 0 0 0 0 0 0 z 0 (keyOf 1) 0 z z 0 z) [] [] ≡ 8
+
+pub each-clause-of-soundness-refuses-a-work : EachClause
+unfolding num ltKey bodyLimit recordLimit valueLimit mergeBelow values total word count keyAt numberAt flagAt offsetAt start lengthAt valueAt recordAt run recordsBetween records valuesSize allBelow offsetStep offsetInside offsetsRight valueFits valuesFit keyStep keysRise pageVerdict le16 tagged built.zeros pointers build held inBase chunkPlaces entryPlaces sound keysVerdict lentVerdict
+each-clause-of-soundness-refuses-a-work = record {
+  none-broken = refl;
+  known-turn = refl;
+  zeroed-memory = refl;
+  known-flags = refl;
+  entry-flag = refl;
+  empty-chunk = refl;
+  unused-entries = refl;
+  unused-bytes = refl;
+  room = refl;
+  rising-keys = refl;
+  rest-above-last = refl;
+  listed-past = refl;
+  passed-part = refl;
+  light-values = refl;
+  gauge = refl;
+  bounds = refl;
+  last-below-cutoff = refl;
+  cutoff-with-base = refl;
+  cutoff-above-separator = refl;
+  override-with-inserts = refl;
+  waiting = refl;
+  done = refl;
+  floor-above-separator = refl;
+  floor-above-latest = refl;
+  floor-of-a-base = refl;
+  floor-when-waiting = refl;
+  absent-keys = refl;
+}

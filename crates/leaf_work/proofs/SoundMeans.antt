@@ -1,0 +1,84 @@
+-- What a sound work has, clause by clause. Assumes nothing.
+use mathlib.Core.Path.{_≡_}
+use mathlib.Core.Bool.{Bool, true}
+use mathlib.Core.List.{List, [], _∷_}
+use Prim.Native.Nat.{ℕ}
+use Rattle.leaf_node.specs.Fits.{All, nil, cons}
+use Rattle.leaf_work.specs.declared.Work.{Work}
+use Rattle.leaf_work.specs.declared.Entry.{Entry}
+use Rattle.leaf_work.specs.Sound.{knownTurn, knownFlags, operations, stored, roomy, risen, restAbove, listedPast, passedPart, listedLight, gauged, bounded, lastBelow, cutoffRight, overrideRight, waitingRight, doneRight, floorAbove, floorAtTurn, absentZero, sound}
+use Rattle.leaf_work.proofs.Tests.{every-all}
+
+module _ (size : ℕ) (w : Work) (list : List Entry) (store p : List ℕ) where
+  pub record Clauses : Type 0 where
+    pub known-turn : knownTurn size w list store p ≡ true
+    pub known-flags : knownFlags size w list store p ≡ true
+    pub operations-right : operations size w list store p ≡ true
+    pub store-right : stored size w list store p ≡ true
+    pub room-right : roomy size w list store p ≡ true
+    pub keys-rise : risen size w list store p ≡ true
+    pub rest-above : restAbove size w list store p ≡ true
+    pub listed-past : listedPast size w list store p ≡ true
+    pub passed-part : passedPart size w list store p ≡ true
+    pub listed-light : listedLight size w list store p ≡ true
+    pub gauge-right : gauged size w list store p ≡ true
+    pub keys-bounded : bounded size w list store p ≡ true
+    pub last-below : lastBelow size w list store p ≡ true
+    pub cutoff-right : cutoffRight size w list store p ≡ true
+    pub override-right : overrideRight size w list store p ≡ true
+    pub waiting-right : waitingRight size w list store p ≡ true
+    pub done-right : doneRight size w list store p ≡ true
+    pub floor-above : floorAbove size w list store p ≡ true
+    pub floor-at-turn : floorAtTurn size w list store p ≡ true
+    pub absent-zero : absentZero size w list store p ≡ true
+
+  pub clauses-of-a-sound-work : sound size w list store p ≡ true → Clauses
+  unfolding sound
+  clauses-of-a-sound-work h = go (every-all (λ b. b) _ h)
+    where
+      go : All (λ (b : Bool). b ≡ true) (
+          knownTurn size w list store p
+          ∷ knownFlags size w list store p
+          ∷ operations size w list store p
+          ∷ stored size w list store p
+          ∷ roomy size w list store p
+          ∷ risen size w list store p
+          ∷ restAbove size w list store p
+          ∷ listedPast size w list store p
+          ∷ passedPart size w list store p
+          ∷ listedLight size w list store p
+          ∷ gauged size w list store p
+          ∷ bounded size w list store p
+          ∷ lastBelow size w list store p
+          ∷ cutoffRight size w list store p
+          ∷ overrideRight size w list store p
+          ∷ waitingRight size w list store p
+          ∷ doneRight size w list store p
+          ∷ floorAbove size w list store p
+          ∷ floorAtTurn size w list store p
+          ∷ absentZero size w list store p
+          ∷ []
+          ) → Clauses
+      go (cons c1 (cons c2 (cons c3 (cons c4 (cons c5 (cons c6 (cons c7 (cons c8 (cons c9 (cons c10 (cons c11 (cons c12 (cons c13 (cons c14 (cons c15 (cons c16 (cons c17 (cons c18 (cons c19 (cons c20 nil)))))))))))))))))))) =
+          record {
+            known-turn = c1;
+            known-flags = c2;
+            operations-right = c3;
+            store-right = c4;
+            room-right = c5;
+            keys-rise = c6;
+            rest-above = c7;
+            listed-past = c8;
+            passed-part = c9;
+            listed-light = c10;
+            gauge-right = c11;
+            keys-bounded = c12;
+            last-below = c13;
+            cutoff-right = c14;
+            override-right = c15;
+            waiting-right = c16;
+            done-right = c17;
+            floor-above = c18;
+            floor-at-turn = c19;
+            absent-zero = c20;
+          }

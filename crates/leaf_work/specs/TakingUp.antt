@@ -1,0 +1,65 @@
+-- What an ingest of the key k takes up and drops. Document 01, "A work and its turns". `page` is the page as the work regards it.
+use mathlib.Core.Bool.{Bool, true, false, _&&_}
+use mathlib.Core.Option.{Option, none, some}
+use mathlib.Core.List.{List, [], _∷_, _++_}
+use Prim.Native.Nat.{ℕ, _+_, _-_}
+use lib.Dec.{ltb}
+use lib.ListN.{length}
+use Rattle.bit_ops.specs.Key.{eqKey}
+use Rattle.leaf_node.specs.Record.{Record, total}
+use Rattle.leaf_node.specs.Page.{count, keyAt, flagAt, recordsBetween, valuesSize}
+use Rattle.leaf_node.specs.Search.{placeFrom}
+use Rattle.leaf_model.specs.Work.{Change, inserted}
+use Rattle.leaf_work.specs.declared.Work.{Work}
+use Rattle.leaf_work.specs.declared.Entry.{Entry}
+use Rattle.leaf_work.specs.Tests.{bit}
+use Rattle.leaf_work.specs.Lent.{insertAt, chunkOf}
+
+-- the value of a change; a deletion has none
+abbrev pub valueOf : Option Change → List ℕ
+valueOf none = []
+valueOf (some c) = c .value
+
+module _ (w : Work) (page k : List ℕ) where
+  -- "Base records below the key become pending": up to `stop`. The search is that of `get`, from `low` on.
+  unfoldable pub stop : ℕ
+  stop = placeFrom page (count page - w .low) (w .low) k
+
+  -- "an equal one is dropped"
+  unfoldable pub drops : Bool
+  unfolding stop
+  drops = ltb stop (count page) && eqKey (keyAt page stop) k
+
+  abbrev pub lowAfter : ℕ
+  lowAfter = stop + bit drops
+
+  -- the base records that become pending, and the base's rest after that
+  abbrev pub takenUp : List Record
+  takenUp = recordsBetween page (w .low) stop
+
+  abbrev pub restAfter : List Record
+  restAfter = recordsBetween page lowAfter (count page)
+
+  -- "The Rust calls `with_deleted_overflow` only when the dropped record has its flag set and at least one base record was taken up just before it
+  -- in the same call."
+  abbrev pub reports : Bool
+  reports = drops && (flagAt page stop && ltb (w .low) stop)
+
+  -- no empty chunk is listed
+  abbrev pub newChunk : List Entry
+  newChunk = elim (ltb (w .low) stop) [ true ↦ chunkOf (w .low) stop (valuesSize page (w .low) stop) ∷ [] | false ↦ [] ]
+
+  -- "the new one is pending behind them"
+  abbrev pub newInsert : Option Change → List Entry
+  newInsert none = []
+  newInsert (some c) = insertAt (w .filled) (w .filled + length (c .value)) k (bit (c .flag)) ∷ []
+
+  abbrev pub newEntries : Option Change → List Entry
+  newEntries c = newChunk ++ newInsert c
+
+  -- the gauge after it
+  abbrev pub countAfter : Option Change → ℕ
+  countAfter c = w .count + length takenUp + length (inserted k c)
+
+  abbrev pub bytesAfter : Option Change → ℕ
+  bytesAfter c = w .bytes + total takenUp + length (valueOf c)
