@@ -1,0 +1,66 @@
+-- What holds of each state that a sequence reaches; what such a state hands on earns none of Nos. 1 to 8. Assumes nothing.
+use mathlib.Core.Path.{_≡_, refl}
+use mathlib.Core.Bool.{Bool, true, false}
+use mathlib.Core.List.{List, [], _++_}
+use Prim.Native.Nat.{ℕ}
+use lib.ListN.{length}
+use borrow.Author.Tests.{eqb-true}
+use Rattle.leaf_node.specs.Fits.{All, Keyed}
+use Rattle.leaf_model.specs.Work.{orElse}
+use Rattle.leaf_model.specs.Claim.{Rising, recordsOf}
+use Rattle.leaf_model.proofs.Lists.{all-right, all-map}
+use Rattle.leaf_model.proofs.Keys.{rising-right}
+use Rattle.leaf_work.specs.declared.Work.{Work}
+use Rattle.leaf_work.specs.Tests.{oneOf, isSet, keyIf}
+use Rattle.leaf_work.specs.Lent.{cutoffOf, separatorOf, readsBase, regarded}
+use Rattle.leaf_work.specs.Pending.{listedOf, restOf}
+use Rattle.leaf_work.specs.Verdict.{keysVerdict, lentVerdict}
+use Rattle.leaf_work.proofs.Tests.{key-is-there}
+use Rattle.leaf_work.proofs.Canonical.{Canonical, canonical-work-earns-no-refusal}
+use Rattle.leaf_claim.specs.Sequence.{State, lent, leavesOf}
+use Rattle.leaf_claim.proofs.Leaves.{Long}
+
+abbrev pub Reached : ℕ → State → Type 0
+Reached size s = Canonical size (s .work) (s .list) (s .store) (s .page) (leavesOf size (s .given)) (s .tally)
+
+pub equal-states-are-reached : (size : ℕ) (s s′ : State) → s′ ≡ s → Reached size s → Reached size s′
+equal-states-are-reached size s s′ e h = rw e h
+
+pub regarded-lent : (s : State) (any : List ℕ) → regarded (s .work) (lent s any) ≡ regarded (s .work) (s .page)
+regarded-lent s any = go (readsBase (s .work))
+  where
+    go : (b : Bool) → oneOf b (oneOf b (s .page) any) [] ≡ oneOf b (s .page) []
+    go true = refl
+    go false = refl
+
+module _ (size : ℕ) (s : State) (h : Reached size s) where
+  abbrev w : Work
+  w = s .work
+
+  page-lent : (b : Bool) (any : List ℕ) → oneOf b (keysVerdict size (oneOf b (s .page) any) (w .latest) (cutoffOf w)) 0 ≡ oneOf b (keysVerdict size (s .page) (w .latest) (cutoffOf w)) 0
+  page-lent true any = refl
+  page-lent false any = refl
+
+  pub reached-state-earns-no-refusal : (any : List ℕ) → lentVerdict size w (s .list) (s .store) (lent s any) ≡ 0
+  unfolding lentVerdict
+  reached-state-earns-no-refusal any =
+      rw (page-lent (readsBase w) any, regarded-lent s any)
+      (canonical-work-earns-no-refusal size w (s .list) (s .store) (s .page) (leavesOf size (s .given)) (s .tally) h)
+
+  -- the pending records
+  pub pending-rises : Rising (listedOf w (s .list) (s .store) (regarded w (s .page)) ++ restOf w (s .store) (regarded w (s .page)))
+  pending-rises = rising-right (recordsOf (leavesOf size (s .given))) _ (rw (h .invariant .tally) (h .invariant .rising))
+
+  pub pending-keys-have-32-bytes : All Keyed (listedOf w (s .list) (s .store) (regarded w (s .page)) ++ restOf w (s .store) (regarded w (s .page)))
+  pending-keys-have-32-bytes =
+      all-map (λ r e. eqb-true (length (r .key)) 32 e) (all-right (recordsOf (leavesOf size (s .given))) _ (rw (h .invariant .tally) (h .invariant .key-lengths)))
+
+  pub separator-has-32-bytes : length (separatorOf w) ≡ 32
+  separator-has-32-bytes = go (isSet (w .over)) (w .overriding) (w .latest) (h .kept .keyed .overriding) (h .kept .keyed .latest)
+    where
+      go : (b : Bool) (o l : List ℕ) → length o ≡ 32 → length l ≡ 32 → length (orElse (keyIf b o) l) ≡ 32
+      go true o l p q = p
+      go false o l p q = q
+
+  pub cutoff-has-32-bytes : Long (cutoffOf w)
+  cutoff-has-32-bytes k e = rw (← (key-is-there (isSet (w .cut)) (w .cutoff) k e .1)) (h .kept .keyed .cutoff)

@@ -1,0 +1,105 @@
+-- Demand 3, as one claim about the whole sequence: a field for each of its sentences, over what the calls are lent and leave.
+use mathlib.Core.Path.{_≡_}
+use mathlib.Core.Bool.{true, not}
+use mathlib.Core.Option.{some}
+use mathlib.Core.List.{List, _∷_, _++_}
+use Prim.Native.Nat.{ℕ, _≤_}
+use lib.Dec.{leb}
+use lib.ListN.{length}
+use Rattle.refusal.specs.Refusal.{accepted, outOfTurn, longValue, keyTooLow, keyPastCutoff, listFull, storeFull, shortArea}
+use Rattle.leaf_node.specs.Limits.{bodyLimit, mergeBelow}
+use Rattle.leaf_node.specs.Record.{Record, body, total}
+use Rattle.leaf_node.specs.Page.{records}
+use Rattle.leaf_node.specs.Fits.{All}
+use Rattle.leaf_model.specs.Basics.{nonempty}
+use Rattle.leaf_model.specs.Cut.{Cut, cutAsWritten}
+use Rattle.leaf_model.specs.Work.{Leaf, belowCutoff, lightChange, finished, turnAfter, lastKey}
+use Rattle.leaf_model.specs.Claim.{Lt, Le, Rising, recordsOf}
+use Rattle.leaf_work.specs.Tests.{isSet, keyIf}
+use Rattle.leaf_work.specs.Lent.{turnNumber, isOpen, isWaiting, cutoffOf, separatorOf}
+use Rattle.leaf_work.specs.Sound.{letsIn}
+use Rattle.leaf_work.specs.Verdict.{unless, first, baseVerdict, hasPages, reaches, Opening, with-base, with-none}
+use Rattle.leaf_work.specs.Outcome.{twinOf}
+use Rattle.leaf_work.specs.Digest.{leavesBy, digestReplyBy, Digested, digestOf}
+use Rattle.leaf_claim.specs.Sequence.{Call, ingest, digest, next-base, remove-cutoff, State, lent, changed, givenBy, answered, leavesOf, Answers}
+
+-- ---- the calls that can be made: keys have 32 bytes
+
+abbrev pub FormedOpening : Opening → Type 0
+FormedOpening (with-base page separator cut cutoff) = (length separator ≡ 32) × (length cutoff ≡ 32)
+FormedOpening (with-none cut) = Unit {0}
+
+abbrev pub Formed : Call → Type 0
+Formed (ingest any key c) = length key ≡ 32
+Formed (digest any area tickets) = Unit {0}
+Formed (next-base page separator cut cutoff) = (length separator ≡ 32) × (length cutoff ≡ 32)
+Formed remove-cutoff = Unit {0}
+
+-- ---- what the papers say of a call
+
+-- The rows of the table that are left for a call of a sequence, by its pending records: what the sequence itself hands on earns none of
+-- Nos. 1 to 8.
+abbrev pub tableSays : ℕ → State → List Record → Call → ℕ
+tableSays size s pending (ingest any k c) =
+    unless outOfTurn (isOpen (s .work))
+    (unless longValue (lightChange size c)
+    (unless keyTooLow (letsIn (s .work) k)
+    (unless keyPastCutoff (belowCutoff (cutoffOf (s .work)) k)
+    (unless listFull (leb (length (changed k c pending)) (length (s .list)))
+    (unless storeFull (leb (total (changed k c pending)) (length (s .store))) accepted)))))
+tableSays size s pending (digest any area tickets) =
+    unless outOfTurn (isOpen (s .work)) (unless shortArea (hasPages size pending area tickets) accepted)
+tableSays size s pending (next-base page separator cut cutoff) =
+    first (baseVerdict size page separator (keyIf cut cutoff))
+    (unless outOfTurn (not (isOpen (s .work)))
+    (unless outOfTurn (isSet (s .work .cut))
+    (unless keyTooLow (reaches (s .work) separator)
+    (unless listFull (leb (length (pending ++ records page)) (length (s .list)))
+    (unless storeFull (leb (total (pending ++ records page)) (length (s .store))) accepted)))))
+tableSays size s pending remove-cutoff = unless outOfTurn (isWaiting (s .work)) accepted
+
+-- steps 1 to 4 of a digest, as document 01 tells them: the leaves that are cut, and the records that are kept
+abbrev pub stepsSay : ℕ → State → List Record → Cut
+stepsSay size s pending = finished size (cutoffOf (s .work)) (cutAsWritten size pending)
+
+-- what a digest that is accepted leaves
+pub record Digests (size : ℕ) (s : State) (pending : List Record) (r : Digested) : Type 0 where
+  -- the leaves with their tickets, read from area and tickets
+  pub leaves : leavesOf size (givenBy (r .reply) (r .area) (r .tickets)) ≡ leavesBy (separatorOf (s .work)) (cutoffOf (s .work)) (stepsSay size s pending)
+  -- "how many leaves it gave, and done, or the cutoff for which it waits"
+  pub reply : r .reply ≡ digestReplyBy (stepsSay size s pending .left) (length (stepsSay size s pending .leaves)) (s .work .cutoff)
+  pub turn : r .work .turn ≡ turnNumber (turnAfter (stepsSay size s pending .left))
+
+-- ---- what is due of a leaf
+
+pub record BodyRight (size : ℕ) (l : Leaf) : Type 0 where
+  pub most : body (l .records) ≤ bodyLimit size
+  pub least : (c : List ℕ) → l .cutoff ≡ some c → mergeBelow size ≤ body (l .records)
+
+pub record BoundsRight (l : Leaf) : Type 0 where
+  pub some-record : nonempty (l .records) ≡ true
+  pub first : All (λ r. Le (l .separator) (r .key)) (l .records)
+  pub last : (c : List ℕ) → l .cutoff ≡ some c → Lt (lastKey (l .records)) c
+
+-- ---- the claim, of the state that a sequence leaves
+
+pub record Claim (size : ℕ) (s : State) : Type 0 where
+  -- "Pending records, the base's rest among them, are what the twin call, given work, list, store and page as a next call of the sequence would
+  -- get them, answers from index 0 up to refusal 10, with the bytes at the place named."
+  pub pending : List Record
+  pub twins : (any : List ℕ) → Answers (twinOf size (s .work) (s .list) (s .store) (lent s any)) (s .store) (lent s any) 0 pending
+  -- "the records of the leaves given out, in order, then the pending records, equal the tally .. alike in every key, value and flag"
+  pub tally : recordsOf (leavesOf size (s .given)) ++ pending ≡ s .tally
+  -- "keys strictly ascending, so none is lost, doubled or disordered"
+  pub rising : Rising (s .tally)
+  -- "Calls are accepted and refused as the papers say"
+  pub refusals : (x : Call) → answered size s x ≡ tableSays size s pending x
+  -- "every accepted digest gives the leaves, tickets and turn of document 01's steps"
+  pub digests : (any area tickets : List ℕ) → answered size s (digest any area tickets) ≡ accepted
+      → Digests size s pending (digestOf size (s .work) (s .list) (s .store) (lent s any) area tickets)
+  -- "Every leaf given out has a body of at most 4,094 bytes, and of at least 2,047 unless it has no cutoff."
+  pub bodies : All (BodyRight size) (leavesOf size (s .given))
+  -- "Its separator is at or below its first key; its cutoff, if any, is above its last."
+  pub bounds : All BoundsRight (leavesOf size (s .given))
+  -- "A leaf that isn't its digest's last, or whose digest answered a merge request, has the next leaf's separator as its cutoff"
+  pub linked : (xs ys : List Leaf) (x y : Leaf) → leavesOf size (s .given) ≡ xs ++ (x ∷ y ∷ ys) → x .linked ≡ true → x .cutoff ≡ some (y .separator)

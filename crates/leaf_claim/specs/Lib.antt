@@ -1,0 +1,3 @@
+-- Document 01, "The tally of demand 3": sequences of calls, and what is claimed of each.
+pub mod Sequence
+pub mod Claim
