@@ -1,0 +1,2 @@
+-- The trials, computed.
+pub mod Computed
