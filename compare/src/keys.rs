@@ -88,7 +88,7 @@ fn plain_prefix_len(a: &Key, b: &Key) -> usize {
 
 /// Document 01's `separate`, bit by bit: b's leading bits, one more than are shared, then zeros.
 /// None for equal keys.
-fn plain_separate(a: &Key, b: &Key) -> Option<Key> {
+pub fn plain_separate(a: &Key, b: &Key) -> Option<Key> {
     let shared = plain_prefix_len(a, b);
     if shared == BITS {
         return None;

@@ -1,10 +1,10 @@
 //! Runs nomt's unchanged leaf updater and the proved static library in one process and compares them.
 //!
-//! `oracle` is the Rust, `ours` the library. `random` makes up calls, `vectors` replays recorded ones,
-//! `bench` times both sides, `record` writes the Rust's answers to a file.
+//! `oracle` is the Rust, `ours` the library, `plain` document 01 written out as a second opinion. `random` makes up
+//! calls, `vectors` replays recorded ones, `bench` times both sides, `record` writes the Rust's answers to a file.
 //!
 //! Where a further call goes: its declaration and guarded wrapper in `ours`, its reference in `oracle`, its
-//! random inputs in a module like `keys` (listed in `random::SUBJECTS`), its line in `vectors::run_call`.
+//! random inputs in a module like `keys` (listed in `random::SUBJECTS`), its line in `vectors::run_on_library`.
 
 mod bench;
 mod hex;
@@ -13,20 +13,24 @@ mod lent;
 mod oracle;
 mod ours;
 mod pages;
+mod plain;
 mod random;
 mod record;
 mod rng;
+mod sequences;
 mod vectors;
 
 // The included Rust names these by `crate::beatree` and `crate::io`.
 use oracle::{beatree, io};
 
+use plain::side::Plain;
 use std::path::Path;
 use std::process::ExitCode;
 
 const USAGE: &str = "\
 usage: compare random SECONDS SEED   made-up calls to both sides, for so many seconds
        compare vectors DIR           the recorded call sequences DIR/*.txt
+       compare plain DIR             the same on the plain functions in place of the library
        compare bench                 times of both sides (build with --profile timing)
        compare record DIR            write the Rust's answers to DIR";
 
@@ -38,7 +42,8 @@ fn main() -> ExitCode {
             (Ok(seconds), Ok(seed)) => random::run(seconds, seed),
             _ => usage(),
         },
-        ["vectors", dir] => vectors::run(Path::new(dir)),
+        ["vectors", dir] => vectors::run(Path::new(dir), || vectors::run_on_library),
+        ["plain", dir] => vectors::run(Path::new(dir), Plain::default),
         ["bench"] => bench::run(),
         ["record", dir] => record::run(Path::new(dir)),
         _ => usage(),

@@ -3,6 +3,8 @@
 //! Only what its files lean on stands here: the key type, two type names of the branch node, the page size
 //! and a page pool. The modules bear the Rust's own names and nesting, because its `use` lines ask for them.
 
+pub mod updater;
+
 use beatree::ops::bit_ops;
 pub use beatree::Key;
 use std::panic;
@@ -76,7 +78,57 @@ pub mod beatree {
 
                 /// Reads the updater's private fields; as a child module it may.
                 pub mod inside {
-                    use super::LeafUpdater;
+                    use super::{BaseLeaf, Key, LeafOp, LeafUpdater, PagePool};
+
+                    /// A listed operation.
+                    pub enum Op<'a> {
+                        Insert(Key, &'a [u8], bool),
+                        /// From, to, bytes of their values.
+                        Chunk(usize, usize, usize),
+                    }
+
+                    /// An updater in the midst of its work: the base with its passed records, cutoff, override and operations.
+                    pub fn amidst(
+                        pool: PagePool,
+                        base: Option<(BaseLeaf, usize)>,
+                        cutoff: Option<Key>,
+                        separator_override: Option<Key>,
+                        ops: Vec<Op>,
+                    ) -> LeafUpdater {
+                        let base = base.map(|(base, low)| BaseLeaf { low, ..base });
+                        let mut updater = LeafUpdater::new(pool, base, cutoff);
+                        updater.separator_override = separator_override;
+                        for op in ops {
+                            let (op, n, bytes) = match op {
+                                Op::Insert(key, value, flag) => {
+                                    let op = LeafOp::Insert(key, value.to_vec(), flag);
+                                    (op, 1, value.len())
+                                }
+                                Op::Chunk(from, to, values) => {
+                                    (LeafOp::KeepChunk(from, to, values), to - from, values)
+                                }
+                            };
+                            updater.ops.push(op);
+                            updater.gauge.ingest(n, bytes);
+                        }
+                        updater
+                    }
+
+                    pub fn ops(updater: &LeafUpdater) -> Vec<Op<'_>> {
+                        let op = |op| match op {
+                            &LeafOp::Insert(key, ref value, flag) => Op::Insert(key, value, flag),
+                            &LeafOp::KeepChunk(from, to, values) => Op::Chunk(from, to, values),
+                        };
+                        updater.ops.iter().map(op).collect()
+                    }
+
+                    pub fn cutoff(updater: &LeafUpdater) -> Option<Key> {
+                        updater.cutoff
+                    }
+
+                    pub fn separator_override(updater: &LeafUpdater) -> Option<Key> {
+                        updater.separator_override
+                    }
 
                     /// How many base records are passed; none without a base.
                     pub fn low(updater: &LeafUpdater) -> Option<usize> {

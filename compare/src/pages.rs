@@ -29,7 +29,7 @@ pub fn key_at(page: &[u8], i: usize) -> &[u8] {
     &page[pointer(i)..][..32]
 }
 
-fn offset_at(page: &[u8], i: usize) -> usize {
+pub fn offset_at(page: &[u8], i: usize) -> usize {
     let at = pointer(i) + 32;
     (u16::from_le_bytes([page[at], page[at + 1]]) & 0x7fff) as usize
 }
@@ -284,6 +284,17 @@ pub fn build(pool: &PagePool, node: &LeafNode, range: [usize; 3]) -> Vec<u8> {
         builder.push_chunk(node, mid, to);
     }
     let mut page = builder.finish().inner.to_vec();
-    page[pointer(n)..PAGE_SIZE - total].fill(0);
+    clear_gap(&mut page);
     page
+}
+
+/// Clears what stands between the pointers and the first value.
+pub fn clear_gap(page: &mut [u8]) {
+    let n = count(page);
+    let first = if n == 0 {
+        PAGE_SIZE
+    } else {
+        offset_at(page, 0)
+    };
+    page[pointer(n)..first].fill(0);
 }

@@ -5,13 +5,16 @@ use crate::keys;
 use crate::lent::Damage;
 use crate::pages;
 use crate::rng::Rng;
+use crate::sequences;
+use std::collections::BTreeSet;
+use std::fmt;
 use std::process::ExitCode;
 use std::time::{Duration, Instant};
 
 /// One round of calls on a subject. A round covers every case of its subject at least once.
 type Subject = fn(&mut Rng, &mut Tally) -> Result<(), Mismatch>;
 
-const SUBJECTS: [Subject; 2] = [keys::round, pages::round];
+const SUBJECTS: [Subject; 3] = [keys::round, pages::round, sequences::round];
 
 /// A call on which the sides differ: its name, and labelled lines with the inputs and what each side gave.
 pub struct Mismatch {
@@ -37,27 +40,67 @@ impl Mismatch {
 /// How many calls of each kind agreed, in the order in which the kinds first came.
 #[derive(Default)]
 pub struct Tally {
-    kinds: Vec<(&'static str, u64)>,
+    kinds: Vec<Kind>,
+}
+
+#[derive(Default)]
+struct Kind {
+    name: &'static str,
+    count: u64,
+    /// The refusals that were met, where the calls are refused ones.
+    refusals: BTreeSet<u8>,
 }
 
 impl Tally {
+    fn kind(&mut self, name: &'static str) -> &mut Kind {
+        let place = self.kinds.iter().position(|kind| kind.name == name);
+        let place = place.unwrap_or_else(|| {
+            self.kinds.push(Kind {
+                name,
+                ..Kind::default()
+            });
+            self.kinds.len() - 1
+        });
+        &mut self.kinds[place]
+    }
+
     pub fn agreed(&mut self, kind: &'static str) {
-        match self.kinds.iter_mut().find(|(name, _)| *name == kind) {
-            Some((_, count)) => *count += 1,
-            None => self.kinds.push((kind, 1)),
-        }
+        self.kind(kind).count += 1;
+    }
+
+    /// A call that was refused by this number, as it had to be.
+    pub fn refused(&mut self, kind: &'static str, number: u8) {
+        let kind = self.kind(kind);
+        kind.count += 1;
+        kind.refusals.insert(number);
+    }
+
+    #[cfg(test)]
+    pub fn refusals(&mut self, kind: &'static str) -> &BTreeSet<u8> {
+        &self.kind(kind).refusals
     }
 
     pub fn total(&self) -> u64 {
-        self.kinds.iter().map(|(_, count)| count).sum()
+        self.kinds.iter().map(|kind| kind.count).sum()
+    }
+}
+
+impl fmt::Display for Kind {
+    fn fmt(&self, f: &mut fmt::Formatter) -> fmt::Result {
+        write!(f, "{}", self.name)?;
+        for (i, number) in self.refusals.iter().enumerate() {
+            let before = if i == 0 { " by" } else { "," };
+            write!(f, "{before} {number}")?;
+        }
+        write!(f, ": {}", self.count)
     }
 }
 
 pub fn run(seconds: u64, seed: u64) -> ExitCode {
     let mut tally = Tally::default();
     let outcome = rounds(Duration::from_secs(seconds), seed, &mut tally);
-    for (kind, count) in &tally.kinds {
-        println!("{kind}: {count}");
+    for kind in &tally.kinds {
+        println!("{kind}");
     }
     let passed = tally.total();
     match outcome {

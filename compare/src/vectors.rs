@@ -1,9 +1,11 @@
 //! `compare vectors DIR`: the recorded sequences DIR/*.txt, run on the library; each answer must be the
 //! recorded one. A call that is not ported yet is skipped and counted; a malformed line is a failure.
+//! `compare plain DIR`: the same on the plain functions, of which none is skipped.
 
-mod answers;
-mod calls;
+pub mod answers;
+pub mod calls;
 mod fields;
+mod written;
 
 use crate::lent::Damage;
 use crate::oracle::Key;
@@ -15,14 +17,25 @@ use std::path::{Path, PathBuf};
 use std::process::ExitCode;
 use std::{fs, io};
 
-enum Outcome {
+pub enum Outcome {
     Answered(Answer),
     Damaged(Damage),
     NotPorted,
 }
 
+/// What recorded calls are run on. It keeps the sequence's work between them.
+pub trait Side {
+    fn run(&mut self, call: &Call) -> Outcome;
+}
+
+impl<F: FnMut(&Call) -> Outcome> Side for F {
+    fn run(&mut self, call: &Call) -> Outcome {
+        self(call)
+    }
+}
+
 /// Runs a call on the library. A call is ported by its line here.
-fn run_call(call: &Call) -> Outcome {
+pub fn run_on_library(call: &Call) -> Outcome {
     match call {
         Call::Separate { a, b } => run_separate(a, b),
         Call::PageKey { page, index } => answered(LentPage::new(page).key(*index), |reply| {
@@ -82,13 +95,13 @@ struct Sequence {
 }
 
 impl Sequence {
-    fn run(&mut self, call: &Call, run_call: impl Fn(&Call) -> Outcome) -> Outcome {
+    fn run(&mut self, call: &Call, side: &mut impl Side) -> Outcome {
         let work = call.use_of_work();
         let needs_work = matches!(work, UseOfWork::Changes | UseOfWork::Reads);
         if needs_work && self.work_lost {
             return Outcome::NotPorted;
         }
-        let outcome = run_call(call);
+        let outcome = side.run(call);
         match (work, &outcome) {
             (UseOfWork::Makes | UseOfWork::Changes, Outcome::NotPorted) => self.work_lost = true,
             (UseOfWork::Makes, Outcome::Answered(Answer::Accepted)) => self.work_lost = false,
@@ -194,7 +207,8 @@ impl Report {
     }
 }
 
-pub fn run(dir: &Path) -> ExitCode {
+/// Each file has a side of its own.
+pub fn run<S: Side>(dir: &Path, new_side: impl Fn() -> S) -> ExitCode {
     let files = match text_files(dir) {
         Ok(files) => files,
         Err(e) => {
@@ -206,7 +220,7 @@ pub fn run(dir: &Path) -> ExitCode {
     for path in files {
         let name = path.file_name().unwrap_or_default().to_string_lossy();
         match fs::read_to_string(&path) {
-            Ok(text) => run_file(&name, &text, &mut report),
+            Ok(text) => run_file(&name, &text, &mut new_side(), &mut report),
             Err(e) => report.fail(&name, vec![(0, e.to_string())]),
         }
     }
@@ -225,14 +239,14 @@ fn text_files(dir: &Path) -> io::Result<Vec<PathBuf>> {
     Ok(files)
 }
 
-fn run_file(name: &str, text: &str, report: &mut Report) {
+fn run_file(name: &str, text: &str, side: &mut impl Side, report: &mut Report) {
     let (steps, mut failures) = read_steps(text);
     for failure in &mut failures {
         failure.1 = format!("malformed: {}", failure.1);
     }
     let mut sequence = Sequence::default();
     for step in steps {
-        let got = match sequence.run(&step.call, run_call) {
+        let got = match sequence.run(&step.call, side) {
             Outcome::NotPorted => {
                 report.skip(step.call.name());
                 continue;
@@ -323,7 +337,7 @@ mod tests {
 
     #[test]
     fn what_a_skipped_call_should_have_changed_is_skipped() {
-        let run_all_but_ingest = |call: &Call| match call {
+        let mut run_all_but_ingest = |call: &Call| match call {
             Call::Ingest { .. } => Outcome::NotPorted,
             Call::Open { list: 0, .. } => Outcome::Answered(Answer::Refused(7)),
             _ => Outcome::Answered(Answer::Accepted),
@@ -331,7 +345,7 @@ mod tests {
         let mut sequence = Sequence::default();
         let mut skips = |line: &str| {
             let call = Call::read(line).unwrap();
-            let outcome = sequence.run(&call, run_all_but_ingest);
+            let outcome = sequence.run(&call, &mut run_all_but_ingest);
             matches!(outcome, Outcome::NotPorted)
         };
         assert!(!skips("open base=none cutoff=none list=121 store=4096"));

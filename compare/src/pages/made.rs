@@ -76,7 +76,7 @@ fn keys(rng: &mut Rng, n: usize) -> Vec<Key> {
 }
 
 /// Value lengths that fit a page of n records.
-fn lengths(rng: &mut Rng, n: usize, filling: Filling) -> Vec<usize> {
+pub fn lengths(rng: &mut Rng, n: usize, filling: Filling) -> Vec<usize> {
     let mut room = BODY_LIMIT - 34 * n;
     let mut lengths = Vec::new();
     for i in 0..n {
@@ -109,20 +109,23 @@ fn lengths(rng: &mut Rng, n: usize, filling: Filling) -> Vec<usize> {
 /// A good page whose gap holds random bytes.
 pub fn page(rng: &mut Rng, n: usize, filling: Filling) -> Vec<u8> {
     let lengths = lengths(rng, n, filling);
-    laid_out(rng, &lengths)
+    let keys = keys(rng, n);
+    laid_out(rng, &keys, &lengths)
 }
 
 /// A good page of n values of one length.
 pub fn page_of(rng: &mut Rng, n: usize, length: usize) -> Vec<u8> {
-    laid_out(rng, &vec![length; n])
+    let keys = keys(rng, n);
+    laid_out(rng, &keys, &vec![length; n])
 }
 
-fn laid_out(rng: &mut Rng, lengths: &[usize]) -> Vec<u8> {
+/// A good page of these keys, which rise, with values of these lengths, which fit.
+pub fn laid_out(rng: &mut Rng, keys: &[Key], lengths: &[usize]) -> Vec<u8> {
     let n = lengths.len();
     let mut page = bytes(rng, PAGE_SIZE);
     page[..2].copy_from_slice(&(n as u16).to_le_bytes());
     let mut offset = PAGE_SIZE - lengths.iter().sum::<usize>();
-    for (i, (key, length)) in keys(rng, n).iter().zip(lengths).enumerate() {
+    for (i, (key, length)) in keys.iter().zip(lengths).enumerate() {
         page[pointer(i)..][..32].copy_from_slice(key);
         set_offset(&mut page, i, offset, rng.between(0, 2) == 0);
         offset += length;

@@ -35,13 +35,13 @@ pub enum Answer {
     Size(usize),
 }
 
-#[derive(Debug, PartialEq)]
+#[derive(Clone, Debug, PartialEq)]
 pub enum Holder {
     Store,
     Page,
 }
 
-#[derive(Debug, PartialEq)]
+#[derive(Clone, Debug, PartialEq)]
 pub struct Pending {
     pub holder: Holder,
     pub offset: usize,

@@ -3,8 +3,6 @@
 use super::fields::Fields;
 use crate::oracle::Key;
 
-// Most fields wait for the call that reads them to be ported.
-#[allow(dead_code)]
 pub enum Call {
     Open {
         base: Option<Base>,
@@ -62,13 +60,11 @@ pub enum Call {
     },
 }
 
-#[allow(dead_code)]
 pub struct Base {
     pub page: Vec<u8>,
     pub separator: Key,
 }
 
-#[allow(dead_code)]
 pub enum Change {
     Put { value: Vec<u8>, flag: bool },
     Delete,
@@ -76,7 +72,7 @@ pub enum Change {
 
 /// What this call is lent in place of the sequence's page, list or store, and which byte of the store is
 /// spoiled while it runs.
-#[allow(dead_code)]
+#[derive(Default)]
 pub struct Instead {
     pub page: Option<Vec<u8>>,
     pub list: Option<usize>,

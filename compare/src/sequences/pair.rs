@@ -1,0 +1,203 @@
+//! The plain functions and the unchanged Rust in one sequence of calls, compared after each.
+
+use super::claim::Claim;
+use crate::hex;
+use crate::oracle::updater::Updater;
+use crate::pages::made;
+use crate::plain::pending;
+use crate::plain::side::Plain;
+use crate::plain::sound::sound;
+use crate::random::{Mismatch, Tally};
+use crate::rng::Rng;
+use crate::vectors::answers::Answer;
+use crate::vectors::calls::Call;
+use std::fmt::Debug;
+
+/// What a call is due by the sequence's own knowledge: None for accepted, else the refusal's number.
+pub type Due = Option<u8>;
+
+pub struct Pair {
+    pub plain: Plain,
+    rust: Updater,
+    pub claim: Claim,
+    accepted: Vec<Call>,
+}
+
+/// The names of a call in the run's tally: accepted, and refused.
+fn names(call: &Call) -> [&'static str; 2] {
+    match call {
+        Call::Open { .. } => ["plain opening", "plain opening, refused"],
+        Call::Ingest { .. } => ["plain ingest", "plain ingest, refused"],
+        Call::Digest { .. } => ["plain digest", "plain digest, refused"],
+        Call::Next { .. } => ["plain next base", "plain next base, refused"],
+        Call::Uncut { .. } => ["plain cutoff removal", "plain cutoff removal, refused"],
+        Call::Twin { .. } => ["plain twin and part", "plain twin and part, refused"],
+        Call::Scope { .. } => ["plain is_in_scope"; 2],
+        Call::Separator => ["plain separator"; 2],
+        _ => ["plain twin and part, all pending"; 2],
+    }
+}
+
+impl Pair {
+    pub fn new() -> Self {
+        Pair {
+            plain: Plain::default(),
+            rust: Updater::new(None, None),
+            claim: Claim::default(),
+            accepted: Vec::new(),
+        }
+    }
+
+    /// A call of the sequence. Accepted, it goes to the Rust too, and everything is compared.
+    pub fn run(&mut self, call: Call, due: Due, tally: &mut Tally) -> Result<(), Mismatch> {
+        let answer = self.answer(&call)?;
+        if let Some(number) = due {
+            self.same(&call, "answer", &answer, &Answer::Refused(number))?;
+            tally.refused(names(&call)[1], number);
+            return Ok(());
+        }
+        self.compare(&call, &answer)?;
+        self.claim.feed(&call, &answer);
+        let holds = self.claim.holds(&self.plain);
+        self.same(&call, "tally of demand 3", &holds, &true)?;
+        tally.agreed(names(&call)[0]);
+        self.accepted.push(call);
+        Ok(())
+    }
+
+    fn answer(&mut self, call: &Call) -> Result<Answer, Mismatch> {
+        let answer = self.plain.answer(call);
+        answer.map_err(|damage| self.mismatch(call, vec![("plain", damage.0)]))
+    }
+
+    /// A call on a damaged work. Refused, it must have changed nothing, and where a number is due it must be that one.
+    /// Accepted, the work was sound, and the Rust with the same fields must agree.
+    pub fn run_on_damaged(
+        damaged: &Plain,
+        call: &Call,
+        due: Due,
+        tally: &mut Tally,
+    ) -> Result<(), Mismatch> {
+        let mut pair = Pair::new();
+        pair.plain = damaged.clone();
+        let answer = pair.answer(call)?;
+        if let Some(number) = due {
+            pair.same(call, "answer", &answer, &Answer::Refused(number))?;
+        }
+        if let Answer::Refused(number) = answer {
+            tally.refused("plain call on a damaged work, refused", number);
+            return Ok(());
+        }
+        pair.rust = Updater::of(&damaged.state, &damaged.page);
+        pair.compare(call, &answer)?;
+        tally.agreed("plain call on a changed work that is still sound");
+        Ok(())
+    }
+
+    /// The answer and the work after an accepted call. A twin call changes nothing; the Rust has none.
+    fn compare(&mut self, call: &Call, answer: &Answer) -> Result<(), Mismatch> {
+        if !matches!(call, Call::Twin { .. }) {
+            let rust = self.rust.answer(call);
+            self.same(call, "answer", answer, &rust)?;
+        }
+        let sound = sound(&self.plain.state, &self.plain.page);
+        self.same(call, "soundness after the call", &sound, &true)?;
+        self.compare_work(call)?;
+        self.compare_list(call)
+    }
+
+    fn compare_work(&self, call: &Call) -> Result<(), Mismatch> {
+        let work = &self.plain.state.work;
+        let rust = &self.rust;
+        let gauge = (work.count, work.bytes);
+        self.same(call, "gauge", &gauge, &rust.gauge())?;
+        self.same(call, "cutoff", &work.cutoff(), &rust.cutoff())?;
+        let overriding = (work.over != 0).then_some(work.overriding);
+        self.same(call, "override", &overriding, &rust.separator_override())?;
+        if work.regards_page() {
+            self.same(call, "low", &Some(work.low), &rust.low())?;
+        }
+        Ok(())
+    }
+
+    /// Entries one by one, places of the pending records, and the store's bytes.
+    fn compare_list(&mut self, call: &Call) -> Result<(), Mismatch> {
+        let state = &self.plain.state;
+        let entries = self.plain.entries();
+        let pending = pending::all(state, &self.plain.page);
+        let ours = Answer::Dump { entries, pending };
+        let mut store = self.rust.insert_values();
+        store.resize(state.store.len().max(store.len()), 0);
+        if state.store != store {
+            return Err(self.differ(call, "store", &state.store, &store));
+        }
+        let rust = self.rust.answer(&Call::Dump);
+        self.same(call, "list and pending records", &ours, &rust)
+    }
+
+    /// The calls that read: the separator, the scope of keys beside the bounds, and now and then, for it is slow, every
+    /// pending record by twin and part.
+    pub fn read(&mut self, rng: &mut Rng, tally: &mut Tally) -> Result<(), Mismatch> {
+        let mut keys = vec![[0; 32], [0xff; 32], rng.key()];
+        for key in [self.plain.state.work.cutoff, self.plain.state.work.last] {
+            keys.extend([key, made::below(&key), made::above(&key)]);
+        }
+        let mut calls: Vec<Call> = keys.into_iter().map(|key| Call::Scope { key }).collect();
+        calls.push(Call::Separator);
+        if rng.between(0, 7) == 0 {
+            calls.push(Call::Dump);
+        }
+        for call in calls {
+            let answer = self.answer(&call)?;
+            let rust = self.rust.answer(&call);
+            self.same(&call, "answer", &answer, &rust)?;
+            tally.agreed(names(&call)[0]);
+        }
+        Ok(())
+    }
+
+    fn same<T: PartialEq + Debug>(
+        &self,
+        call: &Call,
+        what: &'static str,
+        plain: &T,
+        due: &T,
+    ) -> Result<(), Mismatch> {
+        if plain == due {
+            return Ok(());
+        }
+        Err(self.differ(call, what, plain, due))
+    }
+
+    fn differ<T: Debug>(&self, call: &Call, what: &str, plain: &T, due: &T) -> Mismatch {
+        let lines = vec![
+            ("differs", what.to_string()),
+            ("plain", format!("{plain:?}")),
+            ("due", format!("{due:?}")),
+        ];
+        self.mismatch(call, lines)
+    }
+
+    /// The sequence so far can be kept as a recorded one.
+    fn mismatch(&self, call: &Call, mut lines: Vec<(&'static str, String)>) -> Mismatch {
+        let before = self.accepted.iter().map(|call| ("accepted", call.line()));
+        let mut all: Vec<_> = before.collect();
+        let work = &self.plain.state.work;
+        let bounds = [
+            work.latest,
+            work.cutoff,
+            work.overriding,
+            work.floor,
+            work.last,
+        ];
+        let bounds = bounds.map(|key| hex::write(&key)).join(" ");
+        all.push(("work now", format!("{work:?}")));
+        all.push(("its keys", bounds));
+        all.push(("call", call.line()));
+        all.append(&mut lines);
+        Mismatch {
+            call: names(call)[0],
+            lines: all,
+        }
+    }
+}
