@@ -88,18 +88,19 @@ pub record Claim (size : ℕ) (s : State) : Type 0 where
   -- get them, answers from index 0 up to refusal 10, with the bytes at the place named."
   pub pending : List Record
   pub twins : (any : List ℕ) → Answers (twinOf size (s .work) (s .list) (s .store) (lent s any)) (s .store) (lent s any) 0 pending
-  -- "the records of the leaves given out, in order, then the pending records, equal the tally .. alike in every key, value and flag"
+  -- "records of the leaves given out, then the pending ones, equal the tally, in every key, value and flag"
   pub tally : recordsOf (leavesOf size (s .given)) ++ pending ≡ s .tally
-  -- "keys strictly ascending, so none is lost, doubled or disordered"
+  -- "keys strictly ascending"
   pub rising : Rising (s .tally)
-  -- "Calls are accepted and refused as the papers say"
+  -- "calls are accepted and refused as the papers say"
   pub refusals : (x : Call) → answered size s x ≡ tableSays size s pending x
-  -- "every accepted digest gives the leaves, tickets and turn of document 01's steps"
+  -- "every accepted digest gives the leaves, tickets and turn of the five steps"
   pub digests : (any area tickets : List ℕ) → answered size s (digest any area tickets) ≡ accepted
       → Digests size s pending (digestOf size (s .work) (s .list) (s .store) (lent s any) area tickets)
-  -- "Every leaf given out has a body of at most 4,094 bytes, and of at least 2,047 unless it has no cutoff."
+  -- "a leaf's body is at most 4,094, at least 2,047 unless it has no cutoff"
   pub bodies : All (BodyRight size) (leavesOf size (s .given))
-  -- "Its separator is at or below its first key; its cutoff, if any, is above its last."
+  -- "its separator is at or below its first key, its cutoff above its last"
   pub bounds : All BoundsRight (leavesOf size (s .given))
-  -- "A leaf that isn't its digest's last, or whose digest answered a merge request, has the next leaf's separator as its cutoff"
+  -- "a leaf that isn't its digest's last, or whose digest answered a merge request, has the next leaf's separator as its cutoff, as soon
+  -- as a next leaf is given"
   pub linked : (xs ys : List Leaf) (x y : Leaf) → leavesOf size (s .given) ≡ xs ++ (x ∷ y ∷ ys) → x .linked ≡ true → x .cutoff ≡ some (y .separator)
