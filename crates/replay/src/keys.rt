@@ -16,7 +16,7 @@ fn passes(v: &[u8; 99]) -> bool {
 }
 
 // The next record of the file.
-pub fn next(fd: i32, t: Tally) -> Tally {
+pub(crate) fn next(fd: i32, t: Tally) -> Tally {
     let mut v = [0u8; 99];
     let n = io::read_full(fd, &mut v);
     if n != 99 {

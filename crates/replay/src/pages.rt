@@ -56,7 +56,7 @@ fn ask_all(page: &[u8], v: &[u8], t: Tally) -> Tally {
 }
 
 // The next record of the file.
-pub fn next(fd: i32, t: Tally) -> Tally {
+pub(crate) fn next(fd: i32, t: Tally) -> Tally {
     let mut v = [0u8; 5921];
     let n = io::read_full(fd, &mut v);
     if n != 5921 {
@@ -67,7 +67,7 @@ pub fn next(fd: i32, t: Tally) -> Tally {
 }
 
 // The next record of a page that is built.
-pub fn next_build(fd: i32, t: Tally) -> Tally {
+pub(crate) fn next_build(fd: i32, t: Tally) -> Tally {
     let mut v = [0u8; 8198];
     let n = io::read_full(fd, &mut v);
     if n != 8198 {

@@ -3,9 +3,14 @@ use crate::line::close;
 use crate::line::say;
 use crate::line::say_hex;
 use crate::line::say_reply;
+ghost use mathlib.Core.Path.{_≡_};
+ghost use mathlib.Core.List.{_∷_};
+ghost use lib.ListN.{replicate};
 
 // A key that starts with x, zeros after.
-pub fn key_from(x: u8) -> [u8; 32] {
+pub(crate) fn key_from(x: u8) -> [u8; 32]
+    ensures { λ r. ⌜ r ≡ x ∷ replicate 31 0 ⌝ }
+{
     let mut key = [0u8; 32];
     key[0] = x;
     key
@@ -37,7 +42,7 @@ fn separate_trial(label: &[u8], a: u8, b: u8, refusal: u8, x: u8) {
     close(reply == refusal && out[0] == x && zeros_after(&out));
 }
 
-pub fn run() {
+pub(crate) fn run() {
     separate_trial(
         b"* separate, keys starting 10 and 13          ",
         0x10,

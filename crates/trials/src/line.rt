@@ -1,20 +1,20 @@
 // The lines of the table.
 use libc::STDOUT_FILENO;
 
-pub fn say(text: &[u8]) {
+pub(crate) fn say(text: &[u8]) {
     io::write_all(STDOUT_FILENO, text);
 }
 
-pub fn wide(x: u8) -> u64 {
+pub(crate) fn wide(x: u8) -> u64 {
     x as u64
 }
 
 // Two hexadecimal digits.
-pub fn say_hex(x: u8) {
+pub(crate) fn say_hex(x: u8) {
     io::print_hex(STDOUT_FILENO, wide(x), 2);
 }
 
-pub fn say_reply(refusal: u8) {
+pub(crate) fn say_reply(refusal: u8) {
     if refusal == 0 {
         say(b"accepted");
     } else {
@@ -24,7 +24,7 @@ pub fn say_reply(refusal: u8) {
 }
 
 // The line's end: what came out is what the paper states, or it isn't.
-pub fn close(stated: bool) {
+pub(crate) fn close(stated: bool) {
     if stated {
         say(b"   as stated\n");
     } else {

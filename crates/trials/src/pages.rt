@@ -63,7 +63,7 @@ fn one_value(low: u8, high: u8) -> [u8; 4096] {
     page
 }
 
-pub fn run() {
+pub(crate) fn run() {
     number_trial(b"* one empty value, number bytes              ", 0x10, 0x10);
     number_trial(b"* the same, flagged                          ", 0x90, 0x90);
     check_trial(

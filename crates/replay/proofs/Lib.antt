@@ -1,0 +1,2 @@
+-- Laws of a record's bytes and of the counts.
+pub mod Laws

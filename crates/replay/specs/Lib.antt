@@ -1,0 +1,2 @@
+-- What the program counts.
+pub mod Counts
