@@ -1,7 +1,10 @@
 -- The list as the core takes it: rows of numbers, and beside them the keys. It stands for the entries that document 01 speaks of.
-use mathlib.Core.List.{List, [], _∷_}
+use mathlib.Core.Bool.{true, false}
+use mathlib.Core.List.{List, [], _∷_, map}
 use Prim.Native.Nat.{ℕ}
-use lib.ListN.{getD}
+use lib.Dec.{eqb}
+use lib.ListN.{length, getD}
+use Rattle.refusal.specs.Refusal.{accepted}
 use Rattle.leaf_work.specs.declared.Entry.{Entry}
 
 -- a row: kind, flag, from, to, sum
@@ -12,3 +15,17 @@ abbrev pub entriesOf : List (List ℕ) → List (List ℕ) → List Entry
 entriesOf [] keys = []
 entriesOf (r ∷ rs) [] = []
 entriesOf (r ∷ rs) (k ∷ ks) = entryOf r k ∷ entriesOf rs ks
+
+-- the list that rows and keys stand for; rows and keys of unequal number are none, so that No. 7 refuses them
+abbrev pub listOf : List (List ℕ) → List (List ℕ) → List Entry
+listOf rows keys = elim (eqb (length rows) (length keys)) [ true ↦ entriesOf rows keys | false ↦ [] ]
+
+abbrev pub rowOf : Entry → List ℕ
+rowOf e = e .kind ∷ e .flag ∷ e .from ∷ e .to ∷ e .sum ∷ []
+
+-- what a call leaves in rows and keys: those of its list where it is accepted, else what they held
+abbrev pub rowsAfter : ℕ → List Entry → List (List ℕ) → List (List ℕ)
+rowsAfter number list rows = elim (eqb number accepted) [ true ↦ map rowOf list | false ↦ rows ]
+
+abbrev pub keysAfter : ℕ → List Entry → List (List ℕ) → List (List ℕ)
+keysAfter number list keys = elim (eqb number accepted) [ true ↦ map (λ e. e .key) list | false ↦ keys ]

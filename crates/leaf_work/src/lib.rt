@@ -94,7 +94,7 @@ fn is_zero_key(key: &[u8; 32]) -> bool
 }
 
 // Whether an entry is unused: all of its fields are zero.
-fn is_blank(row: [u64; 5], key: &[u8; 32]) -> bool
+fn is_blank(row: [usize; 5], key: &[u8; 32]) -> bool
     ensures { λ r. ⌜ r ≡ isBlank (entryOf row (now (key .entry))) ⌝ }
 {
     if row[0] != 0 {
@@ -116,7 +116,7 @@ fn is_blank(row: [u64; 5], key: &[u8; 32]) -> bool
 }
 
 // Whether the entries from `from` on are unused.
-fn blanks_from(rows: &[[u64; 5]], keys: &[[u8; 32]], from: usize) -> bool
+fn blanks_from(rows: &[[usize; 5]], keys: &[[u8; 32]], from: usize) -> bool
     requires { ⌜ length (now rows) ≡ length (now keys) ⌝ }
     ensures { λ r. ⌜ r ≡ every isBlank (drop from (entriesOf (now (rows .entry)) (now (keys .entry)))) ⌝ }
 {
