@@ -71,7 +71,7 @@ pub fn less(a: &[u8], b: &[u8]) -> bool
 // Whether a and b are one key.
 pub fn equal(a: &[u8], b: &[u8]) -> bool
     requires { ⌜ (length (now a) ≡ 32) × (length (now b) ≡ 32) ⌝ }
-    ensures { λ r. ⌜ r ≡ eqKey (now (a .entry)) (now (b .entry)) ⌝ }
+    ensures { λ r. ⌜ (r ≡ eqKey (now (a .entry)) (now (b .entry))) × Key (now (a .entry)) × Key (now (b .entry)) ⌝ }
 {
     let d = first_difference(a, b);
     d.x == d.y

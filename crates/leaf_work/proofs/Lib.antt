@@ -11,5 +11,4 @@ pub mod Canonical
 pub mod Examples
 pub mod Records
 pub mod Everyone
-pub mod Blanks
 pub mod FlatList

@@ -11,8 +11,8 @@ use Rattle.leaf_work.proofs.Tests.{every-all}
 
 module _ (size : ℕ) (w : Work) (list : List Entry) (store p : List ℕ) where
   pub record Clauses : Type 0 where
-    pub known-turn : knownTurn size w list store p ≡ true
-    pub known-flags : knownFlags size w list store p ≡ true
+    pub known-turn : knownTurn w ≡ true
+    pub known-flags : knownFlags w ≡ true
     pub operations-right : operations size w list store p ≡ true
     pub store-right : stored size w list store p ≡ true
     pub room-right : roomy size w list store p ≡ true
@@ -23,22 +23,22 @@ module _ (size : ℕ) (w : Work) (list : List Entry) (store p : List ℕ) where
     pub listed-light : listedLight size w list store p ≡ true
     pub gauge-right : gauged size w list store p ≡ true
     pub keys-bounded : bounded size w list store p ≡ true
-    pub last-below : lastBelow size w list store p ≡ true
-    pub cutoff-right : cutoffRight size w list store p ≡ true
+    pub last-below : lastBelow w ≡ true
+    pub cutoff-right : cutoffRight w ≡ true
     pub override-right : overrideRight size w list store p ≡ true
     pub waiting-right : waitingRight size w list store p ≡ true
     pub done-right : doneRight size w list store p ≡ true
-    pub floor-above : floorAbove size w list store p ≡ true
-    pub floor-at-turn : floorAtTurn size w list store p ≡ true
-    pub absent-zero : absentZero size w list store p ≡ true
+    pub floor-above : floorAbove w ≡ true
+    pub floor-at-turn : floorAtTurn w ≡ true
+    pub absent-zero : absentZero w ≡ true
 
   pub clauses-of-a-sound-work : sound size w list store p ≡ true → Clauses
   unfolding sound
   clauses-of-a-sound-work h = go (every-all (λ b. b) _ h)
     where
       go : All (λ (b : Bool). b ≡ true) (
-          knownTurn size w list store p
-          ∷ knownFlags size w list store p
+          knownTurn w
+          ∷ knownFlags w
           ∷ operations size w list store p
           ∷ stored size w list store p
           ∷ roomy size w list store p
@@ -49,14 +49,14 @@ module _ (size : ℕ) (w : Work) (list : List Entry) (store p : List ℕ) where
           ∷ listedLight size w list store p
           ∷ gauged size w list store p
           ∷ bounded size w list store p
-          ∷ lastBelow size w list store p
-          ∷ cutoffRight size w list store p
+          ∷ lastBelow w
+          ∷ cutoffRight w
           ∷ overrideRight size w list store p
           ∷ waitingRight size w list store p
           ∷ doneRight size w list store p
-          ∷ floorAbove size w list store p
-          ∷ floorAtTurn size w list store p
-          ∷ absentZero size w list store p
+          ∷ floorAbove w
+          ∷ floorAtTurn w
+          ∷ absentZero w
           ∷ []
           ) → Clauses
       go (cons c1 (cons c2 (cons c3 (cons c4 (cons c5 (cons c6 (cons c7 (cons c8 (cons c9 (cons c10 (cons c11 (cons c12 (cons c13 (cons c14 (cons c15 (cons c16 (cons c17 (cons c18 (cons c19 (cons c20 nil)))))))))))))))))))) =

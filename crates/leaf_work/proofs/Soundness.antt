@@ -79,7 +79,7 @@ module _ (size : ℕ) (w : Work) (list : List Entry) (store p page : List ℕ) (
   low-none : isOpen w ≡ false → w .low ≤ 0
   low-none e = let q : count p ≡ 0 = ap count (idle e) ∙ an-ignored-page-has-no-records in omega (arith, l .low-in)
 
-  flags-right : knownFlags size w list store p ≡ true
+  flags-right : knownFlags w ≡ true
   flags-right = and-both (le-leb _ _ (k .flags .based)) (and-both (le-leb _ _ (k .flags .cut)) (and-both (le-leb _ _ (k .flags .over)) (le-leb _ _ (k .flags .taken))))
 
   operations-right : operations size w list store p ≡ true
@@ -112,7 +112,7 @@ module _ (size : ℕ) (w : Work) (list : List Entry) (store p page : List ℕ) (
       (all-every _ (all-map (λ r h. and-both (not-true (test-of-le _ (r .key) (h .0))) (h .1))
       (all-both (v .above-separator) (all-right (recordsOf g) _ (rw (v .tally) (v .below-cutoff))))))
 
-  cutoff-is-right : cutoffRight size w list store p ≡ true
+  cutoff-is-right : cutoffRight w ≡ true
   cutoff-is-right = implies-if (isSet (w .cut)) _ (λ e. and-both (k .cut-based e) (above (isSet (w .cut)) (v .latest-below-cutoff) e))
     where
       above : (b : Bool) → belowCutoff (keyIf b (w .cutoff)) (w .latest) ≡ true → b ≡ true → ltKey (w .latest) (w .cutoff) ≡ true
@@ -122,17 +122,17 @@ module _ (size : ℕ) (w : Work) (list : List Entry) (store p page : List ℕ) (
   override-is-right : overrideRight size w list store p ≡ true
   override-is-right = implies-if (isSet (w .over)) _ (λ e. rw (used-entries w list store p ops l) (some-insert p 0 ops (l .override-has-insert e)))
 
-  floor-is-above : floorAbove size w list store p ≡ true
+  floor-is-above : floorAbove w ≡ true
   floor-is-above = and-both (not-true (test-of-le _ (w .floor) (v .floor-above-separator))) (not-true (test-of-le (w .latest) (w .floor) (v .floor-above-latest)))
 
-  floor-is-at-turn : floorAtTurn size w list store p ≡ true
+  floor-is-at-turn : floorAtTurn w ≡ true
   floor-is-at-turn =
       and-both (implies-if (readsBase w) _ (λ e. same-bytes (k .base-floor e)))
       (implies-if (isWaiting w) _ (λ e.
       let f = at-waiting size (turnOf (w .turn)) _ g (rw (waiting-turn w e)) (v .at-turn) in
       same-bytes (f .floor-is ∙ sym (key-is-there (isSet (w .cut)) (w .cutoff) _ (f .cutoff-is) .1))))
 
-  absent-keys-are-zero : absentZero size w list store p ≡ true
+  absent-keys-are-zero : absentZero w ≡ true
   absent-keys-are-zero =
       and-both (implies-if (not (isSet (w .cut))) _ (absent (isSet (w .cut)) _ (λ e. same-bytes (k .no-cut e))))
       (and-both (implies-if (not (isSet (w .over))) _ (absent (isSet (w .over)) _ (λ e. same-bytes (k .no-over e))))

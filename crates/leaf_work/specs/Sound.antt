@@ -69,15 +69,40 @@ pastAll w [] = true
 pastAll w (r ∷ []) = not (letsIn w (r .key))
 pastAll w (r ∷ q ∷ rs) = pastAll w (q ∷ rs)
 
--- ---- the clauses
+-- ---- the clauses on the work record alone
+
+abbrev pub knownTurn : Work → Bool
+knownTurn w = isOpen w || isWaiting w || isDone w
+
+abbrev pub knownFlags : Work → Bool
+knownFlags w = isFlag (w .based) && (isFlag (w .cut) && (isFlag (w .over) && isFlag (w .taken)))
+
+-- "the last key taken is below the cutoff"
+abbrev pub lastBelow : Work → Bool
+lastBelow w = implies (isSet (w .taken)) (belowCutoff (cutoffOf w) (w .last))
+
+-- "a cutoff comes with a base and is above its separator"
+abbrev pub cutoffRight : Work → Bool
+cutoffRight w = implies (isSet (w .cut)) (isSet (w .based) && ltKey (w .latest) (w .cutoff))
+
+-- The floor: "keys must .. be at or above the base's separator, and after a merge request at or above the cutoff it named". It is at or
+-- above the current separator, and the latest base's, which is the current one when a digest clears the override.
+abbrev pub floorAbove : Work → Bool
+floorAbove w = not (ltKey (w .floor) (separatorOf w)) && not (ltKey (w .floor) (w .latest))
+
+-- open with a base it is the base's separator, waiting it is the cutoff
+abbrev pub floorAtTurn : Work → Bool
+floorAtTurn w = implies (readsBase w) (sameBytes (w .floor) (w .latest)) && implies (isWaiting w) (sameBytes (w .floor) (w .cutoff))
+
+-- "`Option<Key>`: a flag beside a key, zeros when absent"
+abbrev pub absentZero : Work → Bool
+absentZero w =
+    implies (not (isSet (w .cut))) (sameBytes (w .cutoff) zeroKey)
+    && (implies (not (isSet (w .over))) (sameBytes (w .overriding) zeroKey) && implies (not (isSet (w .taken))) (sameBytes (w .last) zeroKey))
+
+-- ---- the clauses on what it is lent with
 
 module _ (size : ℕ) (w : Work) (list : List Entry) (store page : List ℕ) where
-  abbrev pub knownTurn : Bool
-  knownTurn = isOpen w || isWaiting w || isDone w
-
-  abbrev pub knownFlags : Bool
-  knownFlags = isFlag (w .based) && (isFlag (w .cut) && (isFlag (w .over) && isFlag (w .taken)))
-
   -- "Entries are the Rust's operations in the Rust's order", "unused entries .. are zero"
   abbrev pub operations : Bool
   operations = leb (w .used) (length list) && (every (isOperation (w .low) page) (take (w .used) list) && every isBlank (drop (w .used) list))
@@ -118,14 +143,6 @@ module _ (size : ℕ) (w : Work) (list : List Entry) (store page : List ℕ) whe
   abbrev pub bounded : Bool
   bounded = every (λ r. not (ltKey (r .key) (separatorOf w)) && belowCutoff (cutoffOf w) (r .key)) (pendingOf w list store page)
 
-  -- "the last key taken is below the cutoff"
-  abbrev pub lastBelow : Bool
-  lastBelow = implies (isSet (w .taken)) (belowCutoff (cutoffOf w) (w .last))
-
-  -- "a cutoff comes with a base and is above its separator"
-  abbrev pub cutoffRight : Bool
-  cutoffRight = implies (isSet (w .cut)) (isSet (w .based) && ltKey (w .latest) (w .cutoff))
-
   -- "an override comes with listed inserts"
   abbrev pub overrideRight : Bool
   overrideRight = implies (isSet (w .over)) (someInsert (take (w .used) list))
@@ -141,27 +158,12 @@ module _ (size : ℕ) (w : Work) (list : List Entry) (store page : List ℕ) whe
   abbrev pub doneRight : Bool
   doneRight = implies (isDone w) (not (nonempty (pendingOf w list store page)))
 
-  -- The floor: "keys must .. be at or above the base's separator, and after a merge request at or above the cutoff it named". It is at or
-  -- above the current separator, and the latest base's, which is the current one when a digest clears the override.
-  abbrev pub floorAbove : Bool
-  floorAbove = not (ltKey (w .floor) (separatorOf w)) && not (ltKey (w .floor) (w .latest))
-
-  -- open with a base it is the base's separator, waiting it is the cutoff
-  abbrev pub floorAtTurn : Bool
-  floorAtTurn = implies (readsBase w) (sameBytes (w .floor) (w .latest)) && implies (isWaiting w) (sameBytes (w .floor) (w .cutoff))
-
-  -- "`Option<Key>`: a flag beside a key, zeros when absent"
-  abbrev pub absentZero : Bool
-  absentZero =
-      implies (not (isSet (w .cut))) (sameBytes (w .cutoff) zeroKey)
-      && (implies (not (isSet (w .over))) (sameBytes (w .overriding) zeroKey) && implies (not (isSet (w .taken))) (sameBytes (w .last) zeroKey))
-
   -- "all of this holds"
   unfoldable pub sound : Bool
   sound =
       every (λ b. b) (
-      knownTurn
-      ∷ knownFlags
+      knownTurn w
+      ∷ knownFlags w
       ∷ operations
       ∷ stored
       ∷ roomy
@@ -172,13 +174,13 @@ module _ (size : ℕ) (w : Work) (list : List Entry) (store page : List ℕ) whe
       ∷ listedLight
       ∷ gauged
       ∷ bounded
-      ∷ lastBelow
-      ∷ cutoffRight
+      ∷ lastBelow w
+      ∷ cutoffRight w
       ∷ overrideRight
       ∷ waitingRight
       ∷ doneRight
-      ∷ floorAbove
-      ∷ floorAtTurn
-      ∷ absentZero
+      ∷ floorAbove w
+      ∷ floorAtTurn w
+      ∷ absentZero w
       ∷ []
       )

@@ -1,12 +1,7 @@
 // The leaf updater: the work record and its entries. `specs/` says what every call does with them; the calls follow.
 // Ported from nomt/src/beatree/ops/update/leaf_updater.rs of thrumdev/nomt: `LeafUpdater`, `LeafGauge` and `LeafOp`.
 ghost use mathlib.Core.Path.{_≡_};
-ghost use lib.ListN.{length, drop};
-ghost use Rattle.leaf_work.specs.Tests.{every, isZero, sameBytes};
 ghost use Rattle.leaf_work.specs.Lent.{separatorOf};
-ghost use Rattle.leaf_model.specs.Work.{zeroKey};
-ghost use Rattle.leaf_work.specs.Flat.{entryOf, entriesOf};
-ghost use Rattle.leaf_work.specs.Sound.{isBlank};
 ghost use Rattle.leaf_work.specs.Outcome.{inScopeOf};
 
 // The work record. Turn and flags are numbers, since any bytes may be lent. A key whose flag isn't set is zeros.
@@ -68,66 +63,4 @@ pub fn separator(work: Work) -> [u8; 32]
         return work.latest;
     }
     work.overriding
-}
-
-// ---- soundness: what isn't used is zero
-
-// Whether the bytes from `from` on are zeros.
-fn zeros_from(bytes: &[u8], from: usize) -> bool
-    ensures { λ r. ⌜ r ≡ every isZero (drop from (now (bytes .entry))) ⌝ }
-{
-    let mut i = from;
-    while i < bytes.len() {
-        if bytes[i] != 0 {
-            return false;
-        }
-        i += 1;
-    }
-    true
-}
-
-// Whether a key is zeros, as an absent one must be.
-fn is_zero_key(key: &[u8; 32]) -> bool
-    ensures { λ r. ⌜ r ≡ sameBytes (now (key .entry)) zeroKey ⌝ }
-{
-    zeros_from(key, 0)
-}
-
-// Whether an entry is unused: all of its fields are zero.
-fn is_blank(row: [usize; 5], key: &[u8; 32]) -> bool
-    ensures { λ r. ⌜ r ≡ isBlank (entryOf row (now (key .entry))) ⌝ }
-{
-    if row[0] != 0 {
-        return false;
-    }
-    if row[2] != 0 {
-        return false;
-    }
-    if row[3] != 0 {
-        return false;
-    }
-    if row[4] != 0 {
-        return false;
-    }
-    if !is_zero_key(key) {
-        return false;
-    }
-    row[1] == 0
-}
-
-// Whether the entries from `from` on are unused.
-fn blanks_from(rows: &[[usize; 5]], keys: &[[u8; 32]], from: usize) -> bool
-    requires { ⌜ length (now rows) ≡ length (now keys) ⌝ }
-    ensures { λ r. ⌜ r ≡ every isBlank (drop from (entriesOf (now (rows .entry)) (now (keys .entry)))) ⌝ }
-{
-    let mut i = from;
-    while i < rows.len() {
-        let row = rows[i];
-        let key = keys[i];
-        if !is_blank(row, &key) {
-            return false;
-        }
-        i += 1;
-    }
-    true
 }

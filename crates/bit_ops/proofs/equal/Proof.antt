@@ -9,7 +9,7 @@ first-difference-requires : tie.Need-first-difference-requires
 first-difference-requires c κs = search needs
 
 returns : tie.Need-returns
-returns c = search (word-equal, needs)
+returns c = (search (word-equal, needs), search needs, search needs)
 
 pub equal-spec : {M : Type 1} → statement M
 equal-spec = tie.close (tie.spec first-difference-requires returns)
