@@ -7,9 +7,8 @@ use mathlib.Core.List.{List, [], _∷_, _++_}
 use Prim.Native.Nat.{ℕ, _-_, _≤_, _<_}
 use native.Mathlib.Omega.{arith}
 use native.Mathlib.Nat.{lt-trans, lt-of-lt-of-le, lt-of-le-of-lt}
-use lib.Dec.{eqb, leb, ltb}
-use lib.ListN.{length, take, drop, replicate, length-map, take-append-drop}
-use lib.Seq.{length-take-le}
+use lib.Dec.{leb, ltb}
+use lib.ListN.{length, take, drop, take-append-drop}
 use borrow.Author.Tests.{eqb-true, eq-eqb, leb-true, ltb-true, not-true}
 use Rattle.bit_ops.specs.Key.{ltKey}
 use Rattle.bit_ops.specs.Steps.{zeros}
@@ -30,18 +29,19 @@ use Rattle.leaf_model.proofs.Invariant.{Invariant, OpenFacts, WaitFacts, DoneFa
 use Rattle.leaf_model.proofs.Bases.{rising-of-test}
 use Rattle.leaf_work.specs.declared.Work.{Work}
 use Rattle.leaf_work.specs.declared.Entry.{Entry}
-use Rattle.leaf_work.specs.Tests.{every, sameBytes, implies, isZero, isSet, keyIf, oneOf}
-use Rattle.leaf_work.specs.Lent.{blank, roomRight, turnNumber, isOpen, isWaiting, isDone, cutoffOf, overrideOf, lastOf, separatorOf, readsBase, regarded}
-use Rattle.leaf_work.specs.Pending.{listedOf, restOf, pendingOf, recordsHeld, placesOf}
-use Rattle.leaf_work.specs.Sound.{isFlag, isBlank, isOperation, placed, anInsert, someInsert, letsIn, pastAll, sound}
+use Rattle.leaf_work.specs.Tests.{every, sameBytes, implies, isSet, keyIf, oneOf}
+use Rattle.leaf_work.specs.Lent.{turnNumber, isOpen, isWaiting, isDone, cutoffOf, overrideOf, lastOf, separatorOf, readsBase, regarded}
+use Rattle.leaf_work.specs.Pending.{listedOf, restOf, pendingOf}
+use Rattle.leaf_work.specs.Sound.{isFlag, anInsert, letsIn, pastAll, sound}
 use Rattle.leaf_work.specs.Verdict.{keysVerdict, lentVerdict}
-use Rattle.leaf_work.proofs.Tests.{implied, passed, first-passed, first-zero, every-all, same-bytes-are-equal, key-is-there, no-key}
-use Rattle.leaf_work.proofs.Operations.{Op, Put, Keep, recordsOfOps, storedBytes, entriesOf, somePut, read-ops}
+use Rattle.leaf_work.proofs.Tests.{implied, first-zero, every-all, same-bytes-are-equal, key-is-there, no-key}
+use Rattle.leaf_work.proofs.Operations.{Op, Put, Keep, recordsOfOps, somePut}
 use Rattle.leaf_work.proofs.BasePages.{lent-page-is-good}
 use Rattle.leaf_work.proofs.Laid.{Laid, Kept, Keyed, Flags, turnOf, waiting-is-not-open, ignored, an-ignored-page-has-no-records, rest-is, pending-parts, seesWork}
 use Rattle.leaf_work.proofs.Soundness.{the-work-is-sound}
-use Rattle.leaf_work.proofs.SoundMeans.{Clauses, clauses-of-a-sound-work}
-use Rattle.leaf_work.proofs.Decoding.{Shape, insert, keep, shape, opOf, opsOf, decoded-entries-are-the-entries, decoded-bytes-are-the-stored, decoded-chunks-are-passed, decoded-some-put, all-blank, all-zero}
+use Rattle.leaf_work.proofs.SoundMeans.{Clauses}
+use Rattle.leaf_work.proofs.Decoding.{Shape, insert, keep, opOf, opsOf}
+use Rattle.leaf_work.proofs.Readiness as accepted
 
 -- a work with the page that it is lent, the leaves g given out before and the tally t
 pub record Canonical (size : ℕ) (w : Work) (list : List Entry) (store page : List ℕ) (g : List Leaf) (t : List Record) : Type 0 where
@@ -133,24 +133,23 @@ module _ (size : ℕ) (q : PageSize size) (w : Work) (list : List Entry) (store 
   abbrev p : List ℕ
   p = regarded w page
 
-  record Rows : Type 0 where
-    base : oneOf (readsBase w) (keysVerdict size page (w .latest) (cutoffOf w)) 0 ≡ 0
-    right-room : roomRight size (length list) (length store) ≡ true
-    is-sound : sound size w list store p ≡ true
+  abbrev es : List Entry
+  es = take (w .used) list
 
-  rows : Rows
-  unfolding lentVerdict
-  rows =
-      let a₀ = first-passed (oneOf (readsBase w) (keysVerdict size page (w .latest) (cutoffOf w)) 0) _ z in
-      let a₁ = passed 6 (roomRight size (length list) (length store)) _ (a₀ .1) in
-      let a₂ = passed 7 (sound size w list store p) 0 (a₁ .1) in
-      record { base = a₀ .0; right-room = a₁ .0; is-sound = a₂ .0 }
+  abbrev ops : List Op
+  ops = opsOf store es
 
   c : Clauses size w list store p
-  c = clauses-of-a-sound-work size w list store p (rows .is-sound)
+  c = accepted.c size w list store page z
 
   base-right : readsBase w ≡ true → keysVerdict size page (w .latest) (cutoffOf w) ≡ 0
-  base-right e = rw e at (rows .base)
+  base-right = accepted.base-right size w list store page z
+
+  laid : Laid w list store p ops
+  laid = accepted.laid size w list store page z
+
+  listed-are : listedOf w list store p ≡ recordsOfOps p ops
+  listed-are = accepted.listed-are size w list store page z
 
   -- ---- the base: a good page, or none of it
 
@@ -164,77 +163,6 @@ module _ (size : ℕ) (q : PageSize size) (w : Work) (list : List Entry) (store 
           let a = records-of-a-good-page-are-proper size page q (lent-page-is-good size page (w .latest) (cutoffOf w) (base-right e)) from to o h in
           (a .fits .keys, a .light)
       go false e h = let y : to - from ≡ 0 = omega (arith, an-ignored-page-has-no-records) in rw y (nil, nil)
-
-  -- ---- the operations
-
-  abbrev es : List Entry
-  es = take (w .used) list
-
-  abbrev ops : List Op
-  ops = opsOf store es
-
-  entries-right : (every (isOperation (w .low) p) es && every isBlank (drop (w .used) list)) ≡ true
-  entries-right = and-right (leb (w .used) (length list)) _ (c .operations-right)
-
-  used-in : w .used ≤ length list
-  used-in = leb-true _ _ (and-left (leb (w .used) (length list)) _ (c .operations-right))
-
-  shapes : All (Shape (w .low) p) es
-  shapes = all-map (shape (w .low) p) (every-all (isOperation (w .low) p) es (and-left (every (isOperation (w .low) p) es) _ entries-right))
-
-  blanks : drop (w .used) list ≡ replicate (length (drop (w .used) list)) blank
-  blanks = all-blank (every-all isBlank (drop (w .used) list) (and-right (every (isOperation (w .low) p) es) _ entries-right))
-
-  values-right : (placed (w .filled) 0 es && every isZero (drop (w .filled) store)) ≡ true
-  values-right = and-right (leb (w .filled) (length store)) _ (c .store-right)
-
-  filled-in : w .filled ≤ length store
-  filled-in = leb-true _ _ (and-left (leb (w .filled) (length store)) _ (c .store-right))
-
-  in-place : placed (w .filled) 0 es ≡ true
-  in-place = and-left (placed (w .filled) 0 es) _ values-right
-
-  blank-bytes : drop (w .filled) store ≡ zeros (length (drop (w .filled) store))
-  blank-bytes = all-zero (every-all isZero (drop (w .filled) store) (and-right (placed (w .filled) 0 es) _ values-right))
-
-  entries-are : entriesOf p 0 ops ≡ es
-  entries-are = decoded-entries-are-the-entries (w .low) store p (w .filled) filled-in 0 shapes in-place
-
-  bytes-are : storedBytes ops ≡ take (w .filled) store
-  bytes-are =
-      let y : w .filled - 0 ≡ w .filled = omega arith in
-      decoded-bytes-are-the-stored (w .low) store p (w .filled) filled-in 0 shapes in-place ∙ ap (λ (n : ℕ). take n store) y
-
-  list-is : list ≡ entriesOf p 0 ops ++ replicate (length (drop (w .used) list)) blank
-  list-is = rw (entries-are, ← blanks) (sym (take-append-drop (w .used) list))
-
-  store-is : store ≡ storedBytes ops ++ zeros (length (drop (w .filled) store))
-  store-is = rw (bytes-are, ← blank-bytes) (sym (take-append-drop (w .filled) store))
-
-  listed-are : listedOf w list store p ≡ recordsOfOps p ops
-  listed-are =
-      ap (λ (x : List Entry). recordsHeld store p (placesOf p x)) (sym entries-are) ∙ read-ops store p 0 ops [] (zeros (length (drop (w .filled) store))) store-is refl
-
-  low-in : w .low ≤ count p
-  low-in = leb-true _ _ (c .passed-part)
-
-  override-has-insert : isSet (w .over) ≡ true → somePut ops ≡ true
-  override-has-insert e = decoded-some-put (w .low) store p (w .filled) filled-in shapes (implied (isSet (w .over)) (someInsert es) (c .override-right) e)
-
-  laid : Laid w list store p ops
-  laid = record {
-    room = length (drop (w .used) list);
-    spare = length (drop (w .filled) store);
-    list-is = list-is;
-    store-is = store-is;
-    used-is = sym (length-map es (opOf store) ∙ length-take-le (w .used) list used-in);
-    filled-is = sym (ap length bytes-are ∙ length-take-le (w .filled) store filled-in);
-    count-is = eqb-true _ _ (and-left (eqb (w .count) (length (listedOf w list store p))) _ (c .gauge-right)) ∙ ap length listed-are;
-    bytes-is = eqb-true _ _ (and-right (eqb (w .count) (length (listedOf w list store p))) (eqb (w .bytes) (total (listedOf w list store p))) (c .gauge-right)) ∙ ap total listed-are;
-    low-in = low-in;
-    chunks = decoded-chunks-are-passed (w .low) store p (w .filled) filled-in shapes;
-    override-has-insert = override-has-insert;
-  }
 
   -- ---- the work record
 
@@ -264,7 +192,7 @@ module _ (size : ℕ) (q : PageSize size) (w : Work) (list : List Entry) (store 
 
   kept : Kept size w list store p page
   kept = record {
-    right-room = rows .right-room;
+    right-room = accepted.rows size w list store page z .right-room;
     room-list = leb-true _ _ (and-left (leb (length (pendingOf w list store p)) (length list)) _ (c .room-right));
     room-store = leb-true _ _ (and-right (leb (length (pendingOf w list store p)) (length list)) (leb (total (pendingOf w list store p)) (length store)) (c .room-right));
     base-right = base-right;
@@ -302,21 +230,21 @@ module _ (size : ℕ) (q : PageSize size) (w : Work) (list : List Entry) (store 
   unfolding opOf
   ops-keyed nil nil = nil
   ops-keyed (cons k ks) (cons (insert from to key flag o) s) = cons k (ops-keyed ks s)
-  ops-keyed (cons k ks) (cons (keep from to l m) s) = all-append (base-proper from to (omega arith) (omega (arith, low-in)) .0) (ops-keyed ks s)
+  ops-keyed (cons k ks) (cons (keep from to l m) s) = all-append (base-proper from to (omega arith) (omega (arith, laid .low-in)) .0) (ops-keyed ks s)
 
   key-lengths : All page-record.Keyed (L ++ R)
   key-lengths =
-      let a : All page-record.Keyed L = rw listed-are (ops-keyed (all-take EntryKeyed (w .used) list entries) shapes) in
-      let b : All page-record.Keyed R = rw rest-are (base-proper (w .low) (count p) low-in (omega arith) .0) in
+      let a : All page-record.Keyed L = rw listed-are (ops-keyed (all-take EntryKeyed (w .used) list entries) (accepted.shapes size w list store page z)) in
+      let b : All page-record.Keyed R = rw rest-are (base-proper (w .low) (count p) (laid .low-in) (omega arith) .0) in
       all-append a b
 
   light : All (Light size) (L ++ R)
   light =
       all-append (all-map (λ r e. leb-true (length (r .value)) (valueLimit size) e) (every-all _ L (c .listed-light)))
-      (rw rest-are (base-proper (w .low) (count p) low-in (omega arith) .1))
+      (rw rest-are (base-proper (w .low) (count p) (laid .low-in) (omega arith) .1))
 
   override-has-records : (s : List ℕ) → overrideOf w ≡ some s → nonempty L ≡ true
-  override-has-records s e = rw listed-are (put-is-record p ops (override-has-insert (key-is-there (isSet (w .over)) (w .overriding) s e .0)))
+  override-has-records s e = rw listed-are (put-is-record p ops (laid .override-has-insert (key-is-there (isSet (w .over)) (w .overriding) s e .0)))
 
   no-rest : isOpen w ≡ false → R ≡ []
   unfolding recordsBetween run

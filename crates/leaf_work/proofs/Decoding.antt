@@ -74,7 +74,7 @@ shape low p e h = go (isInsert e) refl
     go false f = shape-chunk low p e (right (isInsert e) (isChunk low p e) f h)
 
 -- values stand one behind the other
-placed-head : (end at from to : ℕ) (key : List ℕ) (flag : ℕ) (es : List Entry) → placed end at (insertAt from to key flag ∷ es) ≡ true
+pub placed-head : (end at from to : ℕ) (key : List ℕ) (flag : ℕ) (es : List Entry) → placed end at (insertAt from to key flag ∷ es) ≡ true
     → (from ≡ at) × (placed end to es ≡ true)
 placed-head end at from to key flag es h = go (eqb from at) refl h
   where
@@ -82,7 +82,7 @@ placed-head end at from to key flag es h = go (eqb from at) refl h
     go true e h = (eqb-true from at e, h)
     go false e h = absurd (false≢true h)
 
-placed-upto : {low : ℕ} {p : List ℕ} (end at : ℕ) {es : List Entry} → All (Shape low p) es → placed end at es ≡ true → at ≤ end
+pub placed-upto : {low : ℕ} {p : List ℕ} (end at : ℕ) {es : List Entry} → All (Shape low p) es → placed end at es ≡ true → at ≤ end
 placed-upto end at nil h = omega (arith, eqb-true at end h)
 placed-upto end at (cons {xs = es} (insert from to key flag o) s) h =
     let d = placed-head end at from to key (bit flag) es h in

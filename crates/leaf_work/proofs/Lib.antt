@@ -7,6 +7,7 @@ pub mod Soundness
 pub mod BasePages
 pub mod SoundMeans
 pub mod Decoding
+pub mod Readiness
 pub mod Canonical
 pub mod Examples
 pub mod Records

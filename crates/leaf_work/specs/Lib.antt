@@ -6,5 +6,6 @@ pub mod Pending
 pub mod Sound
 pub mod TakingUp
 pub mod Verdict
+pub mod Ready
 pub mod Outcome
 pub mod Digest
