@@ -23,7 +23,7 @@ pub const MOST_STORE_BYTES: usize = 65536;
 // ---- the page, Nos. 1 to 6
 
 // Whether a key is below the cutoff, where there is one.
-fn is_below(key: &[u8], cut: bool, cutoff: &[u8; 32]) -> bool
+pub fn is_below(key: &[u8], cut: bool, cutoff: &[u8; 32]) -> bool
     requires { ⌜ length (now key) ≡ 32 ⌝ }
     ensures { λ r. ⌜ r ≡ belowCutoff (keyIf cut (now (cutoff .entry))) (now (key .entry)) ⌝ }
 {

@@ -90,7 +90,7 @@ placed-upto end at (cons {xs = es} (insert from to key flag o) s) h =
 placed-upto end at (cons (keep from to l m) s) h = placed-upto end at s h
 
 module _ (low : ℕ) (store p : List ℕ) (end : ℕ) (fits : end ≤ length store) where
-  value-long : (from to : ℕ) → from ≤ to → to ≤ end → length (take (to - from) (drop from store)) ≡ to - from
+  pub value-long : (from to : ℕ) → from ≤ to → to ≤ end → length (take (to - from) (drop from store)) ≡ to - from
   value-long from to o h = length-take-le (to - from) (drop from store) (omega (arith, length-drop from store))
 
   pub decoded-entries-are-the-entries : (at : ℕ) {es : List Entry} → All (Shape low p) es → placed end at es ≡ true → entriesOf p at (opsOf store es) ≡ es

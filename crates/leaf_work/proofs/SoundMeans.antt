@@ -7,7 +7,7 @@ use Rattle.leaf_node.specs.Fits.{All, nil, cons}
 use Rattle.leaf_work.specs.declared.Work.{Work}
 use Rattle.leaf_work.specs.declared.Entry.{Entry}
 use Rattle.leaf_work.specs.Sound.{knownTurn, knownFlags, operations, stored, roomy, risen, restAbove, listedPast, passedPart, listedLight, gauged, bounded, lastBelow, cutoffRight, overrideRight, waitingRight, doneRight, floorAbove, floorAtTurn, absentZero, sound}
-use Rattle.leaf_work.proofs.Tests.{every-all}
+use Rattle.leaf_work.proofs.Tests.{every-all, all-every}
 
 module _ (size : ℕ) (w : Work) (list : List Entry) (store p : List ℕ) where
   pub record Clauses : Type 0 where
@@ -82,3 +82,28 @@ module _ (size : ℕ) (w : Work) (list : List Entry) (store p : List ℕ) where
             floor-at-turn = c19;
             absent-zero = c20;
           }
+
+  pub a-work-with-all-clauses-is-sound : Clauses → sound size w list store p ≡ true
+  unfolding sound
+  a-work-with-all-clauses-is-sound c =
+      all-every (λ b. b)
+      (cons (c .known-turn)
+      (cons (c .known-flags)
+      (cons (c .operations-right)
+      (cons (c .store-right)
+      (cons (c .room-right)
+      (cons (c .keys-rise)
+      (cons (c .rest-above)
+      (cons (c .listed-past)
+      (cons (c .passed-part)
+      (cons (c .listed-light)
+      (cons (c .gauge-right)
+      (cons (c .keys-bounded)
+      (cons (c .last-below)
+      (cons (c .cutoff-right)
+      (cons (c .override-right)
+      (cons (c .waiting-right)
+      (cons (c .done-right)
+      (cons (c .floor-above)
+      (cons (c .floor-at-turn)
+      (cons (c .absent-zero) nil))))))))))))))))))))
