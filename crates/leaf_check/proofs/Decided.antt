@@ -1,15 +1,15 @@
 -- Soundness as the code tests it is soundness as document 01 asks it. Assumes nothing.
 use mathlib.Core.Path.{_≡_, refl, sym, ap, subst, _∙_}
-use mathlib.Core.Bool.{Bool, true, false, not, _&&_, _||_, false≢true, true≢false}
+use mathlib.Core.Bool.{Bool, true, false, not, _&&_, _||_, false≢true}
 use mathlib.Core.Option.{Option}
 use mathlib.Core.List.{List, [], _∷_, _++_, append-nil}
-use Prim.Native.Nat.{ℕ, zero, suc, _+_, _-_, _*_, _≤_, _<_}
+use Prim.Native.Nat.{ℕ, suc, _+_, _-_, _*_, _≤_, _<_}
 use native.Mathlib.Omega.{arith}
 use native.Mathlib.Decide.{decLt}
 use lib.Dec.{eqb, leb, ltb}
 use lib.ListN.{length, take, drop, length-append, take-append-drop}
 use lib.Seq.{length-take-le}
-use borrow.Author.Tests.{eq-eqb, ne-eqb, eqb-true, eqb-false, lt-ltb, le-ltb, le-leb, lt-leb, leb-true, ltb-true}
+use borrow.Author.Tests.{eq-eqb, ne-eqb, eqb-true, lt-ltb, le-ltb, le-leb, lt-leb, leb-true}
 use Rattle.bit_ops.specs.Key.{ltKey}
 use Rattle.leaf_node.specs.Limits.{PageSize, valueLimit, mergeBelow}
 use Rattle.leaf_node.specs.Record.{Record, body, total}
@@ -19,30 +19,30 @@ use Rattle.leaf_node.specs.Good.{Good, KeysRise}
 use Rattle.leaf_node.specs.Fits.{All, nil, cons}
 use Rattle.leaf_node.specs.Steps.{Laid}
 use Rattle.leaf_node.proofs.Reading.{good-pages-are-laid}
-use Rattle.leaf_node.proofs.Laying.{range-length}
 use Rattle.leaf_node.proofs.RoundTrips.{records-of-a-good-page-are-proper, body-is-pointers-and-values}
 use Rattle.leaf_model.specs.Basics.{nonempty}
-use Rattle.leaf_model.specs.Work.{aboveLast, belowCutoff, keysRise}
+use Rattle.leaf_model.specs.Work.{aboveLast, belowCutoff}
 use Rattle.leaf_model.proofs.Tests.{and-left, and-right}
-use Rattle.leaf_model.proofs.Lists.{all-map, all-both, all-left, all-head}
+use Rattle.leaf_model.proofs.Lists.{all-map, all-both, all-head}
 use Rattle.leaf_model.proofs.Keys.{test-of-le}
 use Rattle.leaf_work.specs.declared.Work.{Work}
 use Rattle.leaf_work.specs.declared.Entry.{Entry}
-use Rattle.leaf_work.specs.Tests.{every, implies, isZero, isSet, bit}
-use Rattle.leaf_work.specs.Lent.{isWaiting, isDone, cutoffOf, lastOf, separatorOf}
-use Rattle.leaf_work.specs.Pending.{listedOf, restOf, pendingOf}
-use Rattle.leaf_work.specs.Sound.{anInsert, someInsert, letsIn, pastAll, isOperation, isBlank, placed, knownTurn, knownFlags, lastBelow, cutoffRight, floorAbove, floorAtTurn, absentZero, operations, stored, roomy, risen, restAbove, listedPast, passedPart, listedLight, gauged, bounded, overrideRight, waitingRight, doneRight, sound}
+use Rattle.leaf_work.specs.Tests.{every, isZero, isSet, bit}
+use Rattle.leaf_work.specs.Lent.{cutoffOf, lastOf, separatorOf}
+use Rattle.leaf_work.specs.Pending.{listedOf, pendingOf}
+use Rattle.leaf_work.specs.Sound.{anInsert, someInsert, letsIn, pastAll, isOperation, isBlank, placed, knownTurn, knownFlags, lastBelow, cutoffRight, floorAbove, floorAtTurn, absentZero, roomy, risen, restAbove, gauged, bounded, overrideRight, waitingRight, doneRight, sound}
 use Rattle.leaf_work.proofs.Tests.{and-both, every-all, all-every}
 use Rattle.leaf_work.proofs.Operations.{chunk-held, total-append}
 use Rattle.leaf_work.proofs.Laid.{pending-parts}
 use Rattle.leaf_work.proofs.Decoding.{Shape, insert, keep, shape, placed-head}
 use Rattle.leaf_work.proofs.SoundMeans.{Clauses, clauses-of-a-sound-work, a-work-with-all-clauses-is-sound}
-use Rattle.leaf_check.specs.declared.Pass.{Pass}
-use Rattle.leaf_check.specs.declared.Bounds.{Bounds}
-use Rattle.leaf_check.specs.Pass.{Regardable, isBehind, passedAll, begun, boundsOf, listedRight, waitingFits, turnRight, roomFor, restRight, settled, recordRight, within, entriesSound, soundBy}
+use Rattle.leaf_pass.specs.declared.Pass.{Pass}
+use Rattle.leaf_pass.specs.declared.Bounds.{Bounds}
+use Rattle.leaf_pass.specs.Pass.{isBehind, passedAll, begun}
+use Rattle.leaf_check.specs.Settled.{Regardable, boundsOf, listedRight, waitingFits, turnRight, roomFor, restRight, settled, recordRight, within, entriesSound, soundBy}
 use Rattle.leaf_check.proofs.Results.{no-page}
-use Rattle.leaf_check.proofs.Rises.{behind, rises, lastFrom, isSome, is-behind, rises-left, rises-right, rises-append, last-append, between-rises, between-first, between-last, between-is, between-some, rise-of, at-or-above-of, rises-of, below-all, last-is-below, above-last-all, past-is}
-use Rattle.leaf_check.proofs.Walks.{Walk, Come, insertsIn, passed-append, right-before, blanks-pass, passed-blanks, walked, walk-is-the-pass, come, to-walk}
+use Rattle.leaf_pass.proofs.Rises.{behind, rises, lastFrom, isSome, is-behind, rises-left, rises-right, rises-append, last-append, between-rises, between-first, between-last, between-is, between-some, rise-of, at-or-above-of, rises-of, below-all, last-is-below, above-last-all, past-is}
+use Rattle.leaf_pass.proofs.Walks.{Come, insertsIn, passed-append, right-before, blanks-pass, passed-blanks, walked, walk-is-the-pass, come, to-walk}
 
 -- two tests that follow from each other are one
 one-test : (a b : Bool) → (a ≡ true → b ≡ true) → (b ≡ true → a ≡ true) → a ≡ b

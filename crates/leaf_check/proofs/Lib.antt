@@ -1,8 +1,5 @@
--- Laws of the pass over the list, on plain values.
+-- Laws of soundness as the code tests it, on plain values.
 pub mod Results
-pub mod Passes
-pub mod Rises
-pub mod Walks
 pub mod Decided
 pub mod Sounds
 pub mod Verdicts

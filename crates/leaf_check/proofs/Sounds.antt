@@ -1,27 +1,26 @@
 -- The test of soundness, step by step. Assumes nothing.
-use mathlib.Core.Path.{_≡_, refl, sym, ap, _∙_}
+use mathlib.Core.Path.{_≡_, sym, ap, _∙_}
 use mathlib.Core.Bool.{Bool, true, false, not, _&&_}
 use mathlib.Core.List.{List}
-use Prim.Native.Nat.{ℕ, _≤_, _<_}
+use Prim.Native.Nat.{ℕ, _≤_}
 use native.Mathlib.Omega.{arith}
 use native.Mathlib.Decide.{decLt}
-use lib.Dec.{eqb, leb}
+use lib.Dec.{leb}
 use lib.ListN.{length, drop}
 use borrow.Author.Tests.{eq-eqb, leb-true, not-true, not-false}
 use Rattle.leaf_node.specs.Limits.{PageSize}
 use Rattle.leaf_node.specs.Page.{count}
-use Rattle.leaf_node.specs.Steps.{Laid}
 use Rattle.leaf_model.proofs.Tests.{and-left, and-right}
 use Rattle.leaf_work.specs.declared.Work.{Work}
-use Rattle.leaf_work.specs.declared.Entry.{Entry}
 use Rattle.leaf_work.specs.Tests.{every, isZero}
 use Rattle.leaf_work.specs.Lent.{separatorOf}
 use Rattle.leaf_work.specs.Flat.{entriesOf, listOf}
 use Rattle.leaf_work.specs.Sound.{sound}
 use Rattle.leaf_work.proofs.FlatList.{length-entries}
-use Rattle.leaf_check.specs.declared.Pass.{Pass}
-use Rattle.leaf_check.specs.declared.Bounds.{Bounds}
-use Rattle.leaf_check.specs.Pass.{Regardable, Seeing, Small, passedAll, begun, boundsOf, settled, recordRight, within, entriesSound, soundBy}
+use Rattle.leaf_pass.specs.declared.Pass.{Pass}
+use Rattle.leaf_pass.specs.declared.Bounds.{Bounds}
+use Rattle.leaf_pass.specs.Pass.{Seeing, Small, passedAll, begun}
+use Rattle.leaf_check.specs.Settled.{Regardable, boundsOf, settled, recordRight, entriesSound, soundBy}
 use Rattle.leaf_check.proofs.Decided.{base-laid, the-pass-decides}
 
 and-false : (a b : Bool) → a ≡ false → (a && b) ≡ false

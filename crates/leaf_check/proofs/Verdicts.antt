@@ -1,8 +1,8 @@
 -- Nos. 1 to 8 in their order. Assumes nothing.
-use mathlib.Core.Path.{_≡_, refl, sym, _∙_}
+use mathlib.Core.Path.{_≡_, sym, _∙_}
 use mathlib.Core.Bool.{Bool, true, false, not}
 use mathlib.Core.List.{List, []}
-use Prim.Native.Nat.{ℕ, _≤_, _<_}
+use Prim.Native.Nat.{ℕ, _≤_}
 use native.Mathlib.Omega.{arith}
 use lib.ListN.{length}
 use borrow.Author.Tests.{eq-eqb, ne-eqb, not-true, not-false}
@@ -12,10 +12,10 @@ use Rattle.leaf_work.specs.Tests.{oneOf, isSet, keyIf}
 use Rattle.leaf_work.specs.Lent.{roomRight, cutoffOf, readsBase, regarded}
 use Rattle.leaf_work.specs.Flat.{listOf}
 use Rattle.leaf_work.specs.Sound.{sound}
-use Rattle.leaf_work.specs.Verdict.{first, unless, keysVerdict, lentVerdict}
+use Rattle.leaf_work.specs.Verdict.{first, keysVerdict, lentVerdict}
 use Rattle.leaf_work.proofs.BasePages.{lent-page-is-good}
 use Rattle.leaf_base.proofs.Rooms.{right-room-is-a-list-and-a-store}
-use Rattle.leaf_check.specs.Pass.{Regardable}
+use Rattle.leaf_check.specs.Settled.{Regardable}
 
 module _ (w : Work) (page : List ℕ) (t : Bool) (e : t ≡ readsBase w) where
   pub the-page-is-read : t ≡ true → page ≡ regarded w page

@@ -1,2 +1,2 @@
--- How the code tests soundness: one pass over the list.
-pub mod Pass
+-- How the code tests soundness.
+pub mod Settled

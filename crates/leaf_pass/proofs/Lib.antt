@@ -1,0 +1,5 @@
+-- Laws of the pass over the list, on plain values.
+pub mod Entries
+pub mod Passes
+pub mod Rises
+pub mod Walks

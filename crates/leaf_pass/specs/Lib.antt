@@ -1,0 +1,2 @@
+-- The pass over the list.
+pub mod Pass
