@@ -1,0 +1,2 @@
+-- Laws of the places of pending records, for the proofs of the calls.
+pub mod Walking

@@ -1,0 +1,21 @@
+-- The reply of the twin call as a struct. Document 01, "Room and soundness": "A twin call answers holder, offset, length, key and flag, or the
+-- refusal".
+use mathlib.Core.Bool.{false}
+use Prim.Native.Nat.{ℕ}
+use Rattle.refusal.specs.Refusal.{accepted}
+use Rattle.leaf_model.specs.Work.{zeroKey}
+use Rattle.leaf_work.specs.Pending.{Holder, Store, Base, Place}
+use Rattle.leaf_work.specs.Outcome.{TwinReply, TwinRefused, Found}
+use Rattle.leaf_pending.specs.declared.Twin.{Twin}
+
+abbrev pub holderNumber : Holder → ℕ
+holderNumber Store = 1
+holderNumber Base = 2
+
+abbrev pub placeOut : Place → Twin
+placeOut x = record { refusal = accepted; holder = holderNumber (x .holder); flag = x .flag; offset = x .offset; len = x .size; key = x .key }
+
+-- the struct for each case
+unfoldable pub twinOut : TwinReply → Twin
+twinOut (TwinRefused n) = record { refusal = n; holder = 0; flag = false; offset = 0; len = 0; key = zeroKey }
+twinOut (Found x) = placeOut x

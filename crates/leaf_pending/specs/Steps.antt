@@ -1,0 +1,39 @@
+-- What the functions below the twin call require, as plain facts; `proofs/Walking.antt` has them of all that earns no refusal.
+use mathlib.Core.Path.{_≡_}
+use mathlib.Core.Bool.{cond}
+use mathlib.Core.List.{List}
+use Prim.Native.Nat.{ℕ, _-_, _≤_, _<_}
+use lib.Dec.{eqb}
+use lib.ListN.{length, getD}
+use Rattle.leaf_node.specs.Page.{count}
+use Rattle.leaf_node.specs.Steps.{Laid}
+use Rattle.leaf_work.specs.declared.Work.{Work}
+use Rattle.leaf_work.specs.declared.Entry.{Entry}
+use Rattle.leaf_work.specs.Lent.{blank}
+use Rattle.leaf_work.specs.Ready.{EntryIn}
+
+-- "an insert .. or a chunk of the base": how many records the entry in a row has
+unfoldable pub rowRecords : List ℕ → ℕ
+rowRecords row = cond (eqb (getD row 0 0) 1) 1 (getD row 3 0 - getD row 2 0)
+
+-- a page with records is a good one
+pub record Countable (page : List ℕ) : Type 0 where
+  pub laid : 0 < count page → Laid page (count page)
+
+-- the base's rest begins at `low`
+pub record Rest (page : List ℕ) (low : ℕ) : Type 0 where
+  pub countable : Countable page
+  pub low-in : low ≤ count page
+
+-- an entry whose records can be read
+pub record EntryRead (page : List ℕ) (e : Entry) : Type 0 where
+  pub countable : Countable page
+  pub order : e .from ≤ e .to
+  pub chunk-in : (e .kind ≡ 1 → ⊥) → e .to ≤ count page
+
+-- a work whose entries and rest can be read
+pub record Walk (w : Work) (list : List Entry) (page : List ℕ) : Type 0 where
+  pub countable : Countable page
+  pub used-in : w .used ≤ length list
+  pub low-in : w .low ≤ count page
+  pub entries : (i : ℕ) → i < w .used → EntryIn (w .low) (w .filled) (getD list i blank)

@@ -1,0 +1,141 @@
+// The pending records, one by one: the twin call says where a record's value lies, the part call hands it back.
+use leaf_node::cell_at;
+use leaf_node::copy_in;
+use leaf_node::count_of;
+use leaf_node::key_at;
+use leaf_work::Work;
+use refusal::NO_SUCH_INDEX;
+ghost use mathlib.Core.Path.{_≡_};
+ghost use Prim.Native.Nat.{_<_, _≤_};
+ghost use lib.ListN.{getD};
+ghost use Rattle.leaf_node.specs.Page.{count};
+ghost use Rattle.leaf_node.specs.Steps.{Readable};
+ghost use Rattle.leaf_work.specs.Flat.{entryOf, listOf};
+ghost use Rattle.leaf_work.specs.Pending.{inBase, chunkPlaces, entryPlaces, pendingPlaces};
+ghost use Rattle.leaf_work.specs.Outcome.{TwinRefused, Found, nthPlace};
+ghost use Rattle.leaf_pending.specs.Reply.{twinOut};
+ghost use Rattle.leaf_pending.specs.Steps.{rowRecords, Countable, Rest, EntryRead, Walk};
+
+// Holders by number.
+pub const STORE: u8 = 1;
+
+pub const BASE: u8 = 2;
+
+// A refusal, or 0 and a pending record: its holder, and there its value's offset and length, its flag and its key. A refusal
+// has zeros in every other field.
+#[repr(C)]
+pub struct Twin {
+    pub refusal: u8,
+    pub holder: u8,
+    pub flag: bool,
+    pub offset: usize,
+    pub len: usize,
+    pub key: [u8; 32],
+}
+
+fn refused(number: u8) -> Twin
+    ensures { λ r. ⌜ r ≡ twinOut (TwinRefused number) ⌝ }
+{
+    Twin {
+        refusal: number,
+        holder: 0,
+        flag: false,
+        offset: 0,
+        len: 0,
+        key: [0u8; 32],
+    }
+}
+
+// ---- the base
+
+// How many records the page has; none where the work ignores it.
+fn records_in(page: &[u8]) -> usize
+    requires { ⌜ Countable (now page) ⌝ }
+    ensures { λ r. ⌜ r ≡ count (now (page .entry)) ⌝ }
+{
+    if page.len() < 2 {
+        return 0;
+    }
+    count_of(page)
+}
+
+// Record i of the base.
+fn base_record(page: &[u8], i: usize) -> Twin
+    requires { ⌜ Readable (now page) i ⌝ }
+    ensures { λ r. ⌜ r ≡ twinOut (Found (inBase (now (page .entry)) i)) ⌝ }
+{
+    let cell = cell_at(page, i);
+    let mut key = [0u8; 32];
+    copy_in(key_at(page, i), &mut key, 0);
+    Twin {
+        refusal: 0,
+        holder: BASE,
+        flag: cell.flag,
+        offset: cell.offset,
+        len: cell.len,
+        key: key,
+    }
+}
+
+// Record i of the base's rest, which begins at `low`.
+fn rest_record(page: &[u8], low: usize, i: usize) -> Twin
+    requires { ⌜ Rest (now page) low ⌝ }
+    ensures { λ r. ⌜ r ≡ twinOut (nthPlace i (chunkPlaces (now (page .entry)) low (count (now (page .entry))))) ⌝ }
+{
+    let n = records_in(page);
+    if n - low <= i {
+        return refused(NO_SUCH_INDEX);
+    }
+    base_record(page, low + i)
+}
+
+// ---- the entries
+
+// How many records an entry has.
+fn records_of(row: [usize; 5]) -> usize
+    requires { ⌜ getD row 2 0 ≤ getD row 3 0 ⌝ }
+    ensures { λ r. ⌜ r ≡ rowRecords row ⌝ }
+{
+    if row[0] == 1 {
+        return 1;
+    }
+    row[3] - row[2]
+}
+
+// Record i of an entry.
+fn entry_record(row: [usize; 5], key: [u8; 32], page: &[u8], i: usize) -> Twin
+    requires { ⌜ (EntryRead (now page) (entryOf row key)) × (i < rowRecords row) ⌝ }
+    ensures { λ r. ⌜ r ≡ twinOut (nthPlace i (entryPlaces (now (page .entry)) (entryOf row key))) ⌝ }
+{
+    if row[0] != 1 {
+        return base_record(page, row[2] + i);
+    }
+    Twin {
+        refusal: 0,
+        holder: STORE,
+        flag: row[1] != 0,
+        offset: row[2],
+        len: row[3] - row[2],
+        key: key,
+    }
+}
+
+// Pending record i: the entries' records, then the base's rest.
+fn pending_record(work: Work, rows: &[[usize; 5]], keys: &[[u8; 32]], page: &[u8], i: usize) -> Twin
+    requires { ⌜ Walk work (listOf (now rows) (now keys)) (now page) ⌝ }
+    ensures { λ r. ⌜ r ≡ twinOut (nthPlace i (pendingPlaces work (listOf (now (rows .entry)) (now (keys .entry))) (now (page .entry)))) ⌝ }
+{
+    let mut left = i;
+    let mut j = 0;
+    while j < work.used {
+        let row = rows[j];
+        let n = records_of(row);
+        if left < n {
+            let key = keys[j];
+            return entry_record(row, key, page, left);
+        }
+        left -= n;
+        j += 1;
+    }
+    rest_record(page, work.low, left)
+}
