@@ -1,7 +1,10 @@
 -- The reply of the twin call as a struct. Document 01, "Room and soundness": "A twin call answers holder, offset, length, key and flag, or the
 -- refusal".
-use mathlib.Core.Bool.{false}
+use mathlib.Core.Bool.{false, cond}
+use mathlib.Core.List.{List, []}
 use Prim.Native.Nat.{ℕ}
+use lib.Dec.{eqb}
+use lib.ListN.{take, drop}
 use Rattle.refusal.specs.Refusal.{accepted}
 use Rattle.leaf_model.specs.Work.{zeroKey}
 use Rattle.leaf_work.specs.Pending.{Holder, Store, Base, Place}
@@ -19,3 +22,8 @@ placeOut x = record { refusal = accepted; holder = holderNumber (x .holder); fla
 unfoldable pub twinOut : TwinReply → Twin
 twinOut (TwinRefused n) = record { refusal = n; holder = 0; flag = false; offset = 0; len = 0; key = zeroKey }
 twinOut (Found x) = placeOut x
+
+-- "handed back as a part of whichever of the two holds it, store or base page"; "the part is empty when refused": the bytes that a twin names
+unfoldable pub twinPart : List ℕ → List ℕ → Twin → List ℕ
+twinPart store page t =
+    cond (eqb (t .holder) 1) (take (t .len) (drop (t .offset) store)) (cond (eqb (t .holder) 2) (take (t .len) (drop (t .offset) page)) [])

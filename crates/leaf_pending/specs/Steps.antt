@@ -1,8 +1,8 @@
--- What the functions below the twin call require, as plain facts; `proofs/Walking.antt` has them of all that earns no refusal.
+-- What the functions below the calls require, as plain facts; `proofs/Twins.antt` has them of all that earns no refusal.
 use mathlib.Core.Path.{_≡_}
 use mathlib.Core.Bool.{cond}
 use mathlib.Core.List.{List}
-use Prim.Native.Nat.{ℕ, _-_, _≤_, _<_}
+use Prim.Native.Nat.{ℕ, _+_, _-_, _≤_, _<_}
 use lib.Dec.{eqb}
 use lib.ListN.{length, getD}
 use Rattle.leaf_node.specs.Page.{count}
@@ -11,6 +11,7 @@ use Rattle.leaf_work.specs.declared.Work.{Work}
 use Rattle.leaf_work.specs.declared.Entry.{Entry}
 use Rattle.leaf_work.specs.Lent.{blank}
 use Rattle.leaf_work.specs.Ready.{EntryIn}
+use Rattle.leaf_pending.specs.declared.Twin.{Twin}
 
 -- "an insert .. or a chunk of the base": how many records the entry in a row has
 unfoldable pub rowRecords : List ℕ → ℕ
@@ -37,3 +38,8 @@ pub record Walk (w : Work) (list : List Entry) (page : List ℕ) : Type 0 where
   pub used-in : w .used ≤ length list
   pub low-in : w .low ≤ count page
   pub entries : (i : ℕ) → i < w .used → EntryIn (w .low) (w .filled) (getD list i blank)
+
+-- a twin whose place lies in its holder
+pub record TwinIn (t : Twin) (store page : List ℕ) : Type 0 where
+  pub in-store : t .holder ≡ 1 → t .offset + t .len ≤ length store
+  pub in-base : t .holder ≡ 2 → t .offset + t .len ≤ length page

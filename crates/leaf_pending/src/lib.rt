@@ -6,15 +6,15 @@ use leaf_node::key_at;
 use leaf_work::Work;
 use refusal::NO_SUCH_INDEX;
 ghost use mathlib.Core.Path.{_≡_};
-ghost use Prim.Native.Nat.{_<_, _≤_};
-ghost use lib.ListN.{getD};
+ghost use Prim.Native.Nat.{_+_, _<_, _≤_};
+ghost use lib.ListN.{length, getD, take, drop};
 ghost use Rattle.leaf_node.specs.Page.{count};
 ghost use Rattle.leaf_node.specs.Steps.{Readable};
 ghost use Rattle.leaf_work.specs.Flat.{entryOf, listOf};
 ghost use Rattle.leaf_work.specs.Pending.{inBase, chunkPlaces, entryPlaces, pendingPlaces};
 ghost use Rattle.leaf_work.specs.Outcome.{TwinRefused, Found, nthPlace};
-ghost use Rattle.leaf_pending.specs.Reply.{twinOut};
-ghost use Rattle.leaf_pending.specs.Steps.{rowRecords, Countable, Rest, EntryRead, Walk};
+ghost use Rattle.leaf_pending.specs.Reply.{twinOut, twinPart};
+ghost use Rattle.leaf_pending.specs.Steps.{rowRecords, Countable, Rest, EntryRead, Walk, TwinIn};
 
 // Holders by number.
 pub const STORE: u8 = 1;
@@ -138,4 +138,27 @@ fn pending_record(work: Work, rows: &[[usize; 5]], keys: &[[u8; 32]], page: &[u8
         j += 1;
     }
     rest_record(page, work.low, left)
+}
+
+// ---- the part
+
+fn cut(bytes: &[u8], offset: usize, len: usize) -> &[u8]
+    requires { ⌜ offset + len ≤ length (now bytes) ⌝ }
+    ensures { λ r. ⌜ now r ≡ take len (drop offset (now (bytes .entry))) ⌝ }
+{
+    &bytes[offset..offset + len]
+}
+
+// The bytes at a twin's place, of whichever holds it.
+fn part_at<'a>(twin: Twin, store: &'a [u8], page: &'a [u8]) -> &'a [u8]
+    requires { ⌜ TwinIn twin (now store) (now page) ⌝ }
+    ensures { λ r. ⌜ now r ≡ twinPart (now (store .entry)) (now (page .entry)) twin ⌝ }
+{
+    if twin.holder == STORE {
+        return cut(store, twin.offset, twin.len);
+    }
+    if twin.holder == BASE {
+        return cut(page, twin.offset, twin.len);
+    }
+    cut(page, 0, 0)
 }
