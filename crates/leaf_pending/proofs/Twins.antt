@@ -20,10 +20,10 @@ use Rattle.leaf_work.specs.Tests.{oneOf}
 use Rattle.leaf_work.specs.Lent.{blank, readsBase, regarded}
 use Rattle.leaf_work.specs.Pending.{Holder, Store, Base, Place, heldBy, inBase, chunkPlaces, insertPlace, entryPlaces, placesOf, pendingPlaces}
 use Rattle.leaf_work.specs.Verdict.{lentVerdict}
-use Rattle.leaf_work.specs.Outcome.{TwinReply, TwinRefused, Found, nthPlace, twinOn, twinOf, partBy}
+use Rattle.leaf_work.specs.Outcome.{TwinReply, TwinRefused, Found, nthPlace, twinOn, twinOf, partBy, partOf}
 use Rattle.leaf_work.specs.Ready.{EntryIn, Ready}
 use Rattle.leaf_work.proofs.Readiness.{accepted-things-are-ready}
-use Rattle.leaf_pending.specs.declared.Twin.{Twin}
+use Rattle.leaf_pending.specs.declared.TwinPlace.{TwinPlace}
 use Rattle.leaf_pending.specs.Reply.{holderNumber, twinOut, twinPart}
 use Rattle.leaf_pending.specs.Steps.{Countable, Walk, TwinIn}
 
@@ -108,6 +108,12 @@ found-on : (v : ℕ) (xs : List Place) (i : ℕ) → v ≡ 0 → nthPlace i xs �
 unfolding twinOn
 found-on v xs i z = rw (twinOn, eq-eqb v 0 z)
 
+pub accepted-walk : (size : ℕ) (w : Work) (list : List Entry) (store page : List ℕ) (v : ℕ) → v ≡ lentVerdict size w list store page → v ≡ 0
+    → (p : List ℕ) → p ≡ regarded w page → PageSize size → Walk w list p
+accepted-walk size w list store page v e z p q s =
+    let r = accepted-things-are-ready size w list store page (sym e ∙ z) s in
+    rw q (record { countable = record { laid = r .laid }; used-in = r .used-in; low-in = r .low-in; entries = r .entries })
+
 module _ (size : ℕ) (w : Work) (list : List Entry) (store page : List ℕ) (i : ℕ) where
   abbrev xs : List Place
   xs = pendingPlaces w list (regarded w page)
@@ -125,25 +131,26 @@ module _ (size : ℕ) (w : Work) (list : List Entry) (store page : List ℕ) (i 
           rw (← found-on v xs i z) (nth-lies store (regarded w page) page shorter (pending-places-lie-in-their-holders store (regarded w page) w list r) i)
       go v e false t = rw (← refused-on v xs i (eqb-false v 0 t)) (refusal-lies store (regarded w page) page shorter v)
 
-  module _ (v : ℕ) (e : v ≡ lentVerdict size w list store page) (t : Twin) where
+  module _ (v : ℕ) (e : v ≡ lentVerdict size w list store page) (t : TwinPlace) where
     pub refused-twin : (v ≡ 0 → ⊥) → t ≡ twinOut (TwinRefused v) → t ≡ twinOut (twinOf size w list store page i)
     refused-twin h q = q ∙ ap twinOut (refused-on v xs i h ∙ ap (λ (n : ℕ). twinOn n xs i) e)
 
-    module _ (z : v ≡ 0) (p : List ℕ) (r : p ≡ regarded w page) where
-      pub accepted-walk : PageSize size → Walk w list p
-      accepted-walk s =
-          let k = accepted-things-are-ready size w list store page (sym e ∙ z) s in
-          rw r (record { countable = record { laid = k .laid }; used-in = k .used-in; low-in = k .low-in; entries = k .entries })
+    pub accepted-twin : v ≡ 0 → (p : List ℕ) → p ≡ regarded w page → t ≡ twinOut (nthPlace i (pendingPlaces w list p)) → t ≡ twinOut (twinOf size w list store page i)
+    accepted-twin z p r q = q ∙ rw r (ap twinOut (found-on v xs i z ∙ ap (λ (n : ℕ). twinOn n xs i) e))
 
-      pub accepted-twin : t ≡ twinOut (nthPlace i (pendingPlaces w list p)) → t ≡ twinOut (twinOf size w list store page i)
-      accepted-twin q = q ∙ rw r (ap twinOut (found-on v xs i z ∙ ap (λ (n : ℕ). twinOn n xs i) e))
+  module _ (t : TwinPlace) (e : t ≡ twinOut (twinOf size w list store page i)) where
+    pub place-of-the-part : PageSize size → TwinIn t store page
+    place-of-the-part q = rw e (twins-lie-in-their-holders q)
+
+    pub part-of-the-twin : (x : List ℕ) → x ≡ twinPart store page t → x ≡ partOf size w list store page i
+    part-of-the-twin x q = q ∙ rw e (the-part-is-the-bytes-at-the-twins-place store page (twinOf size w list store page i))
 
 -- ---- the part of a twin
 
 pub cut-is-the-part : (bytes : List ℕ) (offset len : ℕ) → take (offset + len - offset) (drop offset bytes) ≡ take len (drop offset bytes)
 cut-is-the-part bytes offset len = rw add-sub-cancel-left
 
-module _ (store page : List ℕ) (t : Twin) where
+module _ (store page : List ℕ) (t : TwinPlace) where
   pub stored-part-inside : TwinIn t store page → t .holder ≡ 1 → t .offset + t .len ≤ length store
   stored-part-inside h e = h .in-store e
 

@@ -25,7 +25,7 @@ use Rattle.leaf_work.specs.Pending.{Place, inBase, chunkPlaces, insertPlace, en
 use Rattle.leaf_work.specs.Outcome.{TwinRefused, Found, nthPlace}
 use Rattle.leaf_work.specs.Ready.{EntryIn}
 use Rattle.leaf_work.proofs.FlatList.{length-entries, entry-at}
-use Rattle.leaf_pending.specs.declared.Twin.{Twin}
+use Rattle.leaf_pending.specs.declared.TwinPlace.{TwinPlace}
 use Rattle.leaf_pending.specs.Reply.{twinOut}
 use Rattle.leaf_pending.specs.Steps.{rowRecords, Countable, Rest, EntryRead, Walk}
 
@@ -62,7 +62,7 @@ readable : (p : List ℕ) (i : ℕ) → Countable p → i < count p → Readable
 readable p i c h = let l = c .laid (omega arith) in record { inside = l .inside; there = h; step = l .steps i h }
 
 pub base-record-is-found : (p : List ℕ) (i a n : ℕ) (f : Bool) (k x : List ℕ) → a ≡ start p i → n ≡ lengthAt p i → f ≡ flagAt p i → x ≡ keyAt p i → length x ≡ 32
-    → k ≡ put (replicate 32 0) 0 x → _≡_ {A = Twin} (record { refusal = 0; holder = 2; flag = f; offset = a; len = n; key = k }) (twinOut (Found (inBase p i)))
+    → k ≡ put (replicate 32 0) 0 x → _≡_ {A = TwinPlace} (record { refusal = 0; holder = 2; flag = f; offset = a; len = n; key = k }) (twinOut (Found (inBase p i)))
 unfolding twinOut inBase
 base-record-is-found p i a n f k x ea en ef ex l ek = rw (ea, en, ef, ek ∙ put-all (replicate 32 0) x l ∙ ex)
 
@@ -70,7 +70,7 @@ module _ (p : List ℕ) (low i n : ℕ) (r : Rest p low) (e : n ≡ count p) whe
   pub rest-order : low ≤ n
   rest-order = omega (arith, r .low-in)
 
-  pub rest-is-short : (t : Twin) → n - low ≤ i → t ≡ twinOut (TwinRefused 10) → t ≡ twinOut (nthPlace i (chunkPlaces p low (count p)))
+  pub rest-is-short : (t : TwinPlace) → n - low ≤ i → t ≡ twinOut (TwinRefused 10) → t ≡ twinOut (nthPlace i (chunkPlaces p low (count p)))
   unfolding chunkPlaces
   rest-is-short t h q = rw (q, run-past p (count p - low) low i (omega arith))
 
@@ -78,7 +78,7 @@ module _ (p : List ℕ) (low i n : ℕ) (r : Rest p low) (e : n ≡ count p) whe
     pub rest-readable : Readable p (low + i)
     rest-readable = readable p (low + i) (r .countable) (omega arith)
 
-    pub rest-record-is-found : (t : Twin) → t ≡ twinOut (Found (inBase p (low + i))) → t ≡ twinOut (nthPlace i (chunkPlaces p low (count p)))
+    pub rest-record-is-found : (t : TwinPlace) → t ≡ twinOut (Found (inBase p (low + i))) → t ≡ twinOut (nthPlace i (chunkPlaces p low (count p)))
     unfolding chunkPlaces
     rest-record-is-found t q = rw (q, run-at p (count p - low) low i (omega arith))
 
@@ -121,11 +121,11 @@ module _ (p row key : List ℕ) (i : ℕ) (r : EntryRead p (entryOf row key)) (h
     pub chunk-index-fits : Fits w64 (getD row 3 0) → Fits w64 (getD row 2 0 + i)
     chunk-index-fits f = record { fits = omega (arith, chunk-order, f .fits) }
 
-    pub chunk-record-is-found : (t : Twin) → t ≡ twinOut (Found (inBase p (getD row 2 0 + i))) → t ≡ twinOut (nthPlace i (entryPlaces p (entryOf row key)))
+    pub chunk-record-is-found : (t : TwinPlace) → t ≡ twinOut (Found (inBase p (getD row 2 0 + i))) → t ≡ twinOut (nthPlace i (entryPlaces p (entryOf row key)))
     chunk-record-is-found t q = rw (q, chunk-places p row key n, run-at p (getD row 3 0 - getD row 2 0) (getD row 2 0) i (omega (arith, chunk-order)))
 
   pub insert-is-found : getD row 0 0 ≡ 1
-      → _≡_ {A = Twin} (record { refusal = 0; holder = 1; flag = not (eqb (getD row 1 0) 0); offset = getD row 2 0; len = getD row 3 0 - getD row 2 0; key = key })
+      → _≡_ {A = TwinPlace} (record { refusal = 0; holder = 1; flag = not (eqb (getD row 1 0) 0); offset = getD row 2 0; len = getD row 3 0 - getD row 2 0; key = key })
       (twinOut (nthPlace i (entryPlaces p (entryOf row key))))
   unfolding twinOut
   insert-is-found e = let z : i ≡ 0 = omega (arith, insert-has-one-record row e) in rw (insert-places p row key e, z)
@@ -133,7 +133,7 @@ module _ (p row key : List ℕ) (i : ℕ) (r : EntryRead p (entryOf row key)) (h
 -- ---- the walk
 
 -- pending record i, counted from entry j on
-unfoldable pub twinFrom : Work → List Entry → List ℕ → ℕ → ℕ → Twin
+unfoldable pub twinFrom : Work → List Entry → List ℕ → ℕ → ℕ → TwinPlace
 twinFrom w list p j i = twinOut (nthPlace i (placesOf p (take (w .used - j) (drop j list)) ++ restPlaces w p))
 
 pub all-entries : (w : Work) (list : List Entry) (p : List ℕ) (i : ℕ) → twinOut (nthPlace i (pendingPlaces w list p)) ≡ twinFrom w list p 0 i
@@ -191,7 +191,7 @@ module _ (w : Work) (rows keys : List (List ℕ)) (p : List ℕ) (walk : Walk w 
     many : length here ≡ n
     many = entry-length p (getD rows j []) (getD keys j []) ∙ sym q
 
-    pub entry-has-it : (t : Twin) → left < n → t ≡ twinOut (nthPlace left (entryPlaces p (entryOf (getD rows j []) (getD keys j []))))
+    pub entry-has-it : (t : TwinPlace) → left < n → t ≡ twinOut (nthPlace left (entryPlaces p (entryOf (getD rows j []) (getD keys j []))))
         → t ≡ twinOut (nthPlace i (pendingPlaces w (listOf rows keys) p))
     entry-has-it t l e = e ∙ sym (all-entries w (listOf rows keys) p i ∙ inv ∙ split left ∙ ap twinOut (nth-left here later left (omega (arith, many))))
 
@@ -200,7 +200,7 @@ module _ (w : Work) (rows keys : List (List ℕ)) (p : List ℕ) (walk : Walk w 
     entry-is-passed l = inv ∙ split left ∙ ap twinOut (nth-right here later left (omega (arith, many))) ∙ rw (many, add-one)
 
 module _ (w : Work) (list : List Entry) (p : List ℕ) (i j left : ℕ) (inv : twinFrom w list p 0 i ≡ twinFrom w list p j left) where
-  pub rest-has-it : (t : Twin) → w .used ≤ j → t ≡ twinOut (nthPlace left (chunkPlaces p (w .low) (count p))) → t ≡ twinOut (nthPlace i (pendingPlaces w list p))
+  pub rest-has-it : (t : TwinPlace) → w .used ≤ j → t ≡ twinOut (nthPlace left (chunkPlaces p (w .low) (count p))) → t ≡ twinOut (nthPlace i (pendingPlaces w list p))
   unfolding twinFrom
   rest-has-it t h e = let z : w .used - j ≡ 0 = omega arith in e ∙ sym (all-entries w list p i ∙ inv ∙ rw z)
 

@@ -11,7 +11,7 @@ use Rattle.leaf_work.specs.declared.Work.{Work}
 use Rattle.leaf_work.specs.declared.Entry.{Entry}
 use Rattle.leaf_work.specs.Lent.{blank}
 use Rattle.leaf_work.specs.Ready.{EntryIn}
-use Rattle.leaf_pending.specs.declared.Twin.{Twin}
+use Rattle.leaf_pending.specs.declared.TwinPlace.{TwinPlace}
 
 -- "an insert .. or a chunk of the base": how many records the entry in a row has
 unfoldable pub rowRecords : List ℕ → ℕ
@@ -40,6 +40,6 @@ pub record Walk (w : Work) (list : List Entry) (page : List ℕ) : Type 0 where
   pub entries : (i : ℕ) → i < w .used → EntryIn (w .low) (w .filled) (getD list i blank)
 
 -- a twin whose place lies in its holder
-pub record TwinIn (t : Twin) (store page : List ℕ) : Type 0 where
+pub record TwinIn (t : TwinPlace) (store page : List ℕ) : Type 0 where
   pub in-store : t .holder ≡ 1 → t .offset + t .len ≤ length store
   pub in-base : t .holder ≡ 2 → t .offset + t .len ≤ length page

@@ -24,7 +24,7 @@ pub const BASE: u8 = 2;
 // A refusal, or 0 and a pending record: its holder, and there its value's offset and length, its flag and its key. A refusal
 // has zeros in every other field.
 #[repr(C)]
-pub struct Twin {
+pub struct TwinPlace {
     pub refusal: u8,
     pub holder: u8,
     pub flag: bool,
@@ -33,10 +33,10 @@ pub struct Twin {
     pub key: [u8; 32],
 }
 
-fn refused(number: u8) -> Twin
+fn refused(number: u8) -> TwinPlace
     ensures { λ r. ⌜ r ≡ twinOut (TwinRefused number) ⌝ }
 {
-    Twin {
+    TwinPlace {
         refusal: number,
         holder: 0,
         flag: false,
@@ -60,14 +60,14 @@ fn records_in(page: &[u8]) -> usize
 }
 
 // Record i of the base.
-fn base_record(page: &[u8], i: usize) -> Twin
+fn base_record(page: &[u8], i: usize) -> TwinPlace
     requires { ⌜ Readable (now page) i ⌝ }
     ensures { λ r. ⌜ r ≡ twinOut (Found (inBase (now (page .entry)) i)) ⌝ }
 {
     let cell = cell_at(page, i);
     let mut key = [0u8; 32];
     copy_in(key_at(page, i), &mut key, 0);
-    Twin {
+    TwinPlace {
         refusal: 0,
         holder: BASE,
         flag: cell.flag,
@@ -78,7 +78,7 @@ fn base_record(page: &[u8], i: usize) -> Twin
 }
 
 // Record i of the base's rest, which begins at `low`.
-fn rest_record(page: &[u8], low: usize, i: usize) -> Twin
+fn rest_record(page: &[u8], low: usize, i: usize) -> TwinPlace
     requires { ⌜ Rest (now page) low ⌝ }
     ensures { λ r. ⌜ r ≡ twinOut (nthPlace i (chunkPlaces (now (page .entry)) low (count (now (page .entry))))) ⌝ }
 {
@@ -103,14 +103,14 @@ fn records_of(row: [usize; 5]) -> usize
 }
 
 // Record i of an entry.
-fn entry_record(row: [usize; 5], key: [u8; 32], page: &[u8], i: usize) -> Twin
+fn entry_record(row: [usize; 5], key: [u8; 32], page: &[u8], i: usize) -> TwinPlace
     requires { ⌜ (EntryRead (now page) (entryOf row key)) × (i < rowRecords row) ⌝ }
     ensures { λ r. ⌜ r ≡ twinOut (nthPlace i (entryPlaces (now (page .entry)) (entryOf row key))) ⌝ }
 {
     if row[0] != 1 {
         return base_record(page, row[2] + i);
     }
-    Twin {
+    TwinPlace {
         refusal: 0,
         holder: STORE,
         flag: row[1] != 0,
@@ -121,7 +121,13 @@ fn entry_record(row: [usize; 5], key: [u8; 32], page: &[u8], i: usize) -> Twin
 }
 
 // Pending record i: the entries' records, then the base's rest.
-fn pending_record(work: Work, rows: &[[usize; 5]], keys: &[[u8; 32]], page: &[u8], i: usize) -> Twin
+fn pending_record(
+    work: Work,
+    rows: &[[usize; 5]],
+    keys: &[[u8; 32]],
+    page: &[u8],
+    i: usize,
+) -> TwinPlace
     requires { ⌜ Walk work (listOf (now rows) (now keys)) (now page) ⌝ }
     ensures { λ r. ⌜ r ≡ twinOut (nthPlace i (pendingPlaces work (listOf (now (rows .entry)) (now (keys .entry))) (now (page .entry)))) ⌝ }
 {
@@ -150,15 +156,15 @@ fn cut(bytes: &[u8], offset: usize, len: usize) -> &[u8]
 }
 
 // The bytes at a twin's place, of whichever holds it.
-fn part_at<'a>(twin: Twin, store: &'a [u8], page: &'a [u8]) -> &'a [u8]
-    requires { ⌜ TwinIn twin (now store) (now page) ⌝ }
-    ensures { λ r. ⌜ now r ≡ twinPart (now (store .entry)) (now (page .entry)) twin ⌝ }
+fn part_at<'a>(place: TwinPlace, store: &'a [u8], page: &'a [u8]) -> &'a [u8]
+    requires { ⌜ TwinIn place (now store) (now page) ⌝ }
+    ensures { λ r. ⌜ now r ≡ twinPart (now (store .entry)) (now (page .entry)) place ⌝ }
 {
-    if twin.holder == STORE {
-        return cut(store, twin.offset, twin.len);
+    if place.holder == STORE {
+        return cut(store, place.offset, place.len);
     }
-    if twin.holder == BASE {
-        return cut(page, twin.offset, twin.len);
+    if place.holder == BASE {
+        return cut(page, place.offset, place.len);
     }
     cut(page, 0, 0)
 }
