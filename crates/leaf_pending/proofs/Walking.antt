@@ -24,7 +24,7 @@ use Rattle.leaf_work.specs.Flat.{entryOf, entriesOf, listOf}
 use Rattle.leaf_work.specs.Pending.{Place, inBase, chunkPlaces, insertPlace, entryPlaces, placesOf, restPlaces, pendingPlaces}
 use Rattle.leaf_work.specs.Outcome.{TwinRefused, Found, nthPlace}
 use Rattle.leaf_work.specs.Ready.{EntryIn}
-use Rattle.leaf_work.proofs.FlatList.{length-entries, entry-at}
+use Rattle.leaf_work.proofs.FlatList.{length-entries, entry-at, rows-and-keys-agree}
 use Rattle.leaf_pending.specs.declared.TwinPlace.{TwinPlace}
 use Rattle.leaf_pending.specs.Reply.{twinOut}
 use Rattle.leaf_pending.specs.Steps.{rowRecords, Countable, Rest, EntryRead, Walk}
@@ -140,17 +140,9 @@ pub all-entries : (w : Work) (list : List Entry) (p : List ℕ) (i : ℕ) → tw
 unfolding twinFrom
 all-entries w list p i = let e : w .used - 0 ≡ w .used = omega arith in rw e
 
-lengths-agree : (rows keys : List (List ℕ)) → 0 < length (listOf rows keys) → (length rows ≡ length keys) × (listOf rows keys ≡ entriesOf rows keys)
-lengths-agree rows keys h = go (eqb (length rows) (length keys)) refl h
-  where
-    go : (b : Bool) → eqb (length rows) (length keys) ≡ b → 0 < length {A = Entry} (elim b [ true ↦ entriesOf rows keys | false ↦ [] ])
-        → (length rows ≡ length keys) × (listOf rows keys ≡ entriesOf rows keys)
-    go true e h = (eqb-true (length rows) (length keys) e, rw (listOf, e))
-    go false e h = absurd (omega arith)
-
 module _ (w : Work) (rows keys : List (List ℕ)) (p : List ℕ) (walk : Walk w (listOf rows keys) p) (j : ℕ) (h : j < w .used) where
   agree : (length rows ≡ length keys) × (listOf rows keys ≡ entriesOf rows keys)
-  agree = lengths-agree rows keys (omega (arith, walk .used-in))
+  agree = rows-and-keys-agree rows keys (omega (arith, walk .used-in))
 
   pub row-there : j < length rows
   row-there = omega (arith, walk .used-in, ap length (agree .1), length-entries rows keys (agree .0))

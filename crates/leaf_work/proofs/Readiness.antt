@@ -163,11 +163,13 @@ module _ (size : ℕ) (w : Work) (list : List Entry) (store page : List ℕ) (z 
       let h : total (pendingOf w list store p) ≤ length store = leb-true _ _ (and-right (leb (length (pendingOf w list store p)) (length list)) (leb (total (pendingOf w list store p)) (length store)) (c .room-right)) in
       omega (arith, total-append (recordsOfOps p ops) (recordsBetween p (w .low) (count p)), rest-total, laid .bytes-is)
 
-  lengths-right : (length list ≤ mostEntries) × (length store ≤ mostStoreBytes)
+  lengths-right : (0 < length list) × (length list ≤ mostEntries) × (length store ≤ mostStoreBytes)
   lengths-right =
       let few = leb (recordLimit size + 1) (length list) && leb (length list) mostEntries in
-      let h = and-left (few && leb size (length store)) (leb (length store) mostStoreBytes) (rows .right-room) in (
-        leb-true _ _ (and-right (leb (recordLimit size + 1) (length list)) (leb (length list) mostEntries) (and-left few (leb size (length store)) h)),
+      let h = and-left (few && leb size (length store)) (leb (length store) mostStoreBytes) (rows .right-room) in
+      let k = and-left few (leb size (length store)) h in (
+        omega (arith, leb-true (recordLimit size + 1) (length list) (and-left (leb (recordLimit size + 1) (length list)) (leb (length list) mostEntries) k)),
+        leb-true _ _ (and-right (leb (recordLimit size + 1) (length list)) (leb (length list) mostEntries) k),
         leb-true _ _ (and-right (few && leb size (length store)) (leb (length store) mostStoreBytes) (rows .right-room)),
       )
 
@@ -198,7 +200,8 @@ module _ (size : ℕ) (w : Work) (list : List Entry) (store page : List ℕ) (z 
     store-room = store-room;
     laid = λ h. good-pages-are-laid size p q (base-good h);
     rising = λ h. good-pages-rise size p q (base-good h);
-    list-short = lengths-right .0;
-    store-short = lengths-right .1;
+    list-there = lengths-right .0;
+    list-short = lengths-right .1;
+    store-short = lengths-right .2;
     page-short = page-short q;
   }

@@ -29,6 +29,7 @@ pub record Ready (w : Work) (list : List Entry) (store page : List ℕ) : Type 0
   -- a page with records is a good one
   pub laid : 0 < count page → Laid page (count page)
   pub rising : 0 < count page → Rising page (count page)
+  pub list-there : 0 < length list
   pub list-short : length list ≤ mostEntries
   pub store-short : length store ≤ mostStoreBytes
   pub page-short : length page ≤ 32767
