@@ -1,4 +1,7 @@
 // The pending records, one by one: the twin call says where a record's value lies, the part call hands it back.
+use leaf_check::lent_verdict;
+use leaf_check::regard;
+use leaf_node::PAGE_SIZE;
 use leaf_node::cell_at;
 use leaf_node::copy_in;
 use leaf_node::count_of;
@@ -12,7 +15,7 @@ ghost use Rattle.leaf_node.specs.Page.{count};
 ghost use Rattle.leaf_node.specs.Steps.{Readable};
 ghost use Rattle.leaf_work.specs.Flat.{entryOf, listOf};
 ghost use Rattle.leaf_work.specs.Pending.{inBase, chunkPlaces, entryPlaces, pendingPlaces};
-ghost use Rattle.leaf_work.specs.Outcome.{TwinRefused, Found, nthPlace};
+ghost use Rattle.leaf_work.specs.Outcome.{TwinRefused, Found, nthPlace, twinOf, partOf};
 ghost use Rattle.leaf_pending.specs.Reply.{twinOut, twinPart};
 ghost use Rattle.leaf_pending.specs.Steps.{rowRecords, Countable, Rest, EntryRead, Walk, TwinIn};
 
@@ -167,4 +170,38 @@ fn part_at<'a>(place: TwinPlace, store: &'a [u8], page: &'a [u8]) -> &'a [u8]
         return cut(page, place.offset, place.len);
     }
     cut(page, 0, 0)
+}
+
+// ---- the calls
+
+// Pending record i: where its value lies, its key and its flag.
+pub fn twin(
+    work: Work,
+    rows: &[[usize; 5]],
+    keys: &[[u8; 32]],
+    store: &[u8],
+    page: &[u8],
+    i: usize,
+) -> TwinPlace
+    ensures { λ r. ⌜ r ≡ twinOut (twinOf 4096 work (listOf (now (rows .entry)) (now (keys .entry))) (now (store .entry)) (now (page .entry)) i) ⌝ }
+{
+    let v = lent_verdict(work, rows, keys, store, page, PAGE_SIZE);
+    if v != 0 {
+        return refused(v);
+    }
+    pending_record(work, rows, keys, regard(work, page), i)
+}
+
+// The value of pending record i, as a part of store or page; none where the twin call refuses.
+pub fn part<'a>(
+    work: Work,
+    rows: &[[usize; 5]],
+    keys: &[[u8; 32]],
+    store: &'a [u8],
+    page: &'a [u8],
+    i: usize,
+) -> &'a [u8]
+    ensures { λ r. ⌜ now r ≡ partOf 4096 work (listOf (now (rows .entry)) (now (keys .entry))) (now (store .entry)) (now (page .entry)) i ⌝ }
+{
+    part_at(twin(work, rows, keys, store, page, i), store, page)
 }
