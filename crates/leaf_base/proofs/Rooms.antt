@@ -20,8 +20,8 @@ module _ (rows keys : List (List ℕ)) where
   the-list : length rows ≡ length keys → listOf rows keys ≡ entriesOf rows keys
   the-list h = rw (listOf, eq-eqb (length rows) (length keys) h)
 
-  list-length : length rows ≡ length keys → length (listOf rows keys) ≡ length rows
-  list-length h = rw (the-list h) (length-entries rows keys h)
+  pub the-list-is-as-long-as-its-rows : length rows ≡ length keys → length (listOf rows keys) ≡ length rows
+  the-list-is-as-long-as-its-rows h = rw (the-list h) (length-entries rows keys h)
 
   module _ (size : ℕ) (store : List ℕ) where
     pub unequal-rows-and-keys-are-no-list : (length rows ≡ length keys → ⊥) → false ≡ roomRight size (length (listOf rows keys)) (length store)
@@ -31,7 +31,7 @@ module _ (rows keys : List (List ℕ)) where
         → (leb ((size - 2) / 34 + 1) (length rows) && leb (length rows) 4096 && leb size (length store) && leb (length store) 65536)
         ≡ roomRight size (length (listOf rows keys)) (length store)
     unfolding recordLimit bodyLimit
-    the-lengths-decide h = rw (list-length h)
+    the-lengths-decide h = rw (the-list-is-as-long-as-its-rows h)
 
     -- what a call knows behind the test
     module _ (e : roomRight size (length (listOf rows keys)) (length store) ≡ true) where
@@ -56,7 +56,7 @@ module _ (rows keys : List (List ℕ)) where
       pub right-room-is-a-list-and-a-store : (length rows ≡ length keys) × (length rows ≤ mostEntries) × (length store ≤ mostStoreBytes) × (size ≤ length store) × (listOf rows keys ≡ entriesOf rows keys)
       right-room-is-a-list-and-a-store = (
         rows-and-keys-are-as-many,
-        omega (arith, room-parts .1, list-length rows-and-keys-are-as-many),
+        omega (arith, room-parts .1, the-list-is-as-long-as-its-rows rows-and-keys-are-as-many),
         room-parts .3,
         room-parts .2,
         the-list rows-and-keys-are-as-many,

@@ -4,10 +4,6 @@ use Rattle.leaf_base.proofs.Bases.{page-and-keys-come-first, a-low-cuto
 use borrow.Author.Needs.{needs}
 use Rattle.leaf_base.proofs.base_verdict.Statement.{statement}
 use Rattle.leaf_base.proofs.base_verdict.Tie as tie
-use Rattle.leaf_base.proofs.base_verdict.Reads as reads
-use Rattle.leaf_base.proofs.base_verdict.Lts as lts
-use Rattle.leaf_base.proofs.is_below.Reads as is-below-reads
-use Rattle.leaf_base.proofs.keys_verdict.Reads as keys-verdict-reads
 
 keys-verdict-requires : tie.Need-keys-verdict-requires
 keys-verdict-requires c κs = search needs

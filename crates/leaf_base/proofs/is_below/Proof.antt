@@ -4,9 +4,6 @@ use Rattle.leaf_base.proofs.Bases.{a-cutoff-decides}
 use borrow.Author.Needs.{needs}
 use Rattle.leaf_base.proofs.is_below.Statement.{statement}
 use Rattle.leaf_base.proofs.is_below.Tie as tie
-use Rattle.leaf_base.proofs.is_below.Reads as reads
-use Rattle.leaf_base.proofs.is_below.Lts as lts
-use Rattle.bit_ops.proofs.less.Reads as less-reads
 
 less-requires : tie.Need-less-requires
 less-requires c κs = search needs

@@ -5,11 +5,6 @@ use Rattle.leaf_base.proofs.Bases.{a-bad-page-has-its-number, keys-outs
 use borrow.Author.Needs.{needs}
 use Rattle.leaf_base.proofs.keys_verdict.Statement.{statement}
 use Rattle.leaf_base.proofs.keys_verdict.Tie as tie
-use Rattle.leaf_base.proofs.keys_verdict.Reads as reads
-use Rattle.leaf_base.proofs.keys_verdict.Lts as lts
-use Rattle.leaf_base.proofs.keys_within.Reads as keys-within-reads
-use Rattle.leaf_node.proofs.count_of.Reads as count-of-reads
-use Rattle.leaf_node.proofs.verdict.Reads as verdict-reads
 
 verdict-requires : tie.Need-verdict-requires
 verdict-requires c κs = search needs

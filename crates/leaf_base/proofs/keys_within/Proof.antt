@@ -4,11 +4,6 @@ use Rattle.leaf_base.proofs.KeysWithin.{no-keys-are-within, first-key-o
 use borrow.Author.Needs.{needs}
 use Rattle.leaf_base.proofs.keys_within.Statement.{statement}
 use Rattle.leaf_base.proofs.keys_within.Tie as tie
-use Rattle.leaf_base.proofs.keys_within.Reads as reads
-use Rattle.leaf_base.proofs.keys_within.Lts as lts
-use Rattle.bit_ops.proofs.less.Reads as less-reads
-use Rattle.leaf_base.proofs.is_below.Reads as is-below-reads
-use Rattle.leaf_node.proofs.key_at.Reads as key-at-reads
 
 returns : tie.Need-returns
 returns c = search (no-keys-are-within, needs)

@@ -4,8 +4,6 @@ use Rattle.leaf_base.proofs.Rooms.{unequal-rows-and-keys-are-no-list, t
 use borrow.Author.Needs.{needs}
 use Rattle.leaf_base.proofs.room_right.Statement.{statement}
 use Rattle.leaf_base.proofs.room_right.Tie as tie
-use Rattle.leaf_base.proofs.room_right.Reads as reads
-use Rattle.leaf_base.proofs.room_right.Lts as lts
 
 returns : tie.Need-returns
 returns c = search (unequal-rows-and-keys-are-no-list, needs)
