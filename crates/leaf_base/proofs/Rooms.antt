@@ -2,7 +2,7 @@
 use mathlib.Core.Path.{_≡_, refl}
 use mathlib.Core.Bool.{Bool, true, false, _&&_}
 use mathlib.Core.List.{List}
-use Prim.Native.Nat.{ℕ, _+_, _-_, _/_, _≤_}
+use Prim.Native.Nat.{ℕ, _+_, _-_, _/_, _≤_, _<_}
 use native.Mathlib.Omega.{arith}
 use lib.Dec.{eqb, leb}
 use lib.ListN.{length}
@@ -52,6 +52,9 @@ module _ (rows keys : List (List ℕ)) where
           go : (b : Bool) → eqb (length rows) (length keys) ≡ b → length rows ≡ length keys
           go true h = eqb-true (length rows) (length keys) h
           go false h = absurd (omega (arith, room-parts .0, no-list (eqb-false (length rows) (length keys) h)))
+
+      pub the-rows-outnumber-a-page : recordLimit size < length rows
+      the-rows-outnumber-a-page = omega (arith, room-parts .0, the-list-is-as-long-as-its-rows rows-and-keys-are-as-many)
 
       pub right-room-is-a-list-and-a-store : (length rows ≡ length keys) × (length rows ≤ mostEntries) × (length store ≤ mostStoreBytes) × (size ≤ length store) × (listOf rows keys ≡ entriesOf rows keys)
       right-room-is-a-list-and-a-store = (
