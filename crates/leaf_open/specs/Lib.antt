@@ -1,2 +1,3 @@
--- What the calls that open a work take, as the definitions of leaf_work have it.
+-- What the calls that open a work take, and the steps of their tests, as the definitions of leaf_work have it.
 pub mod Opening
+pub mod Again
