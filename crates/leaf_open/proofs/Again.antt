@@ -25,7 +25,7 @@ use Rattle.leaf_work.specs.Verdict.{unless, first, baseVerdict, nextBaseVerdict
 use Rattle.leaf_work.specs.Outcome.{replyNumber, Changed, changedBy, nextBaseWork, nextBaseOf, removeWork, removeCutoffOf}
 use Rattle.leaf_work.proofs.Tests.{passed}
 use Rattle.leaf_work.proofs.BasePages.{base-page-is-good}
-use Rattle.leaf_check.specs.Pass.{Regardable}
+use Rattle.leaf_check.specs.Settled.{Regardable}
 use Rattle.leaf_base.proofs.Bases.{first-refused}
 use Rattle.leaf_base.proofs.Rooms.{the-list-is-as-long-as-its-rows, rows-and-keys-are-as-many, the-rows-outnumber-a-page, right-room-is-a-list-and-a-store}
 use Rattle.leaf_open.specs.Again.{closedVerdict, followsVerdict}
