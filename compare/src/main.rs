@@ -4,7 +4,7 @@
 //! calls, `vectors` replays recorded ones, `bench` times both sides, `record` writes the Rust's answers to a file.
 //!
 //! Where a further call goes: its declaration and guarded wrapper in `ours`, its reference in `oracle`, its
-//! random inputs in a module like `keys` (listed in `random::SUBJECTS`), its line in `vectors::run_on_library`.
+//! random inputs in a module like `keys` (listed in `random::SUBJECTS`), its line in `ours::side`.
 
 mod bench;
 mod hex;
@@ -23,6 +23,7 @@ mod vectors;
 // The included Rust names these by `crate::beatree` and `crate::io`.
 use oracle::{beatree, io};
 
+use ours::side::Library;
 use plain::side::Plain;
 use std::path::Path;
 use std::process::ExitCode;
@@ -42,7 +43,7 @@ fn main() -> ExitCode {
             (Ok(seconds), Ok(seed)) => random::run(seconds, seed),
             _ => usage(),
         },
-        ["vectors", dir] => vectors::run(Path::new(dir), || vectors::run_on_library),
+        ["vectors", dir] => vectors::run(Path::new(dir), Library::default),
         ["plain", dir] => vectors::run(Path::new(dir), Plain::default),
         ["bench"] => bench::run(),
         ["record", dir] => record::run(Path::new(dir)),

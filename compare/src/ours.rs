@@ -3,3 +3,5 @@
 
 pub mod keys;
 pub mod pages;
+pub mod side;
+pub mod work;

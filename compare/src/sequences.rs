@@ -1,5 +1,5 @@
 //! Made-up sequences of calls on a work: the plain functions beside the unchanged Rust on every accepted call, and calls that
-//! must be refused, whose number the sequence knows by itself. When the library has these calls, it is compared here too.
+//! must be refused, whose number the sequence knows by itself; the library beside the plain functions on every call that it has.
 
 mod changed;
 mod claim;
@@ -334,6 +334,13 @@ mod tests {
                 "plain twin and part, refused",
                 &[1, 2, 3, 4, 5, 6, 7, 8, 10],
             ),
+            ("opening, refused", &[1, 2, 3, 4, 5, 6, 7]),
+            (
+                "next base, refused",
+                &[1, 2, 3, 4, 5, 6, 7, 8, 9, 13, 15, 16],
+            ),
+            ("cutoff removal, refused", &[7, 8, 9]),
+            ("twin and part, refused", &[1, 2, 3, 4, 5, 6, 7, 8, 10]),
         ] {
             let met: Vec<u8> = tally.refusals(name).iter().copied().collect();
             assert_eq!(met, due, "{name}");

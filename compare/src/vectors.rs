@@ -8,9 +8,6 @@ mod fields;
 mod written;
 
 use crate::lent::Damage;
-use crate::oracle::Key;
-use crate::ours::keys as ours;
-use crate::ours::pages::{LentPage, ValueReply};
 use answers::{Answer, Line};
 use calls::{Call, UseOfWork};
 use std::path::{Path, PathBuf};
@@ -26,64 +23,6 @@ pub enum Outcome {
 /// What recorded calls are run on. It keeps the sequence's work between them.
 pub trait Side {
     fn run(&mut self, call: &Call) -> Outcome;
-}
-
-impl<F: FnMut(&Call) -> Outcome> Side for F {
-    fn run(&mut self, call: &Call) -> Outcome {
-        self(call)
-    }
-}
-
-/// Runs a call on the library. A call is ported by its line here.
-pub fn run_on_library(call: &Call) -> Outcome {
-    match call {
-        Call::Separate { a, b } => run_separate(a, b),
-        Call::PageKey { page, index } => answered(LentPage::new(page).key(*index), |reply| {
-            or_refused(reply.refusal, Answer::Key(reply.key))
-        }),
-        Call::PageValue { page, index } => answered(LentPage::new(page).value(*index), cell),
-        Call::PageGet { page, key } => answered(LentPage::new(page).get(key), cell),
-        Call::PageValuesSize { page, from, to } => {
-            answered(LentPage::new(page).values_size(*from, *to), |reply| {
-                or_refused(reply.refusal, Answer::Size(reply.bytes))
-            })
-        }
-        _ => Outcome::NotPorted,
-    }
-}
-
-fn answered<T>(reply: Result<T, Damage>, answer: impl Fn(T) -> Answer) -> Outcome {
-    match reply {
-        Ok(reply) => Outcome::Answered(answer(reply)),
-        Err(damage) => Outcome::Damaged(damage),
-    }
-}
-
-fn or_refused(refusal: u8, accepted: Answer) -> Answer {
-    if refusal == 0 {
-        accepted
-    } else {
-        Answer::Refused(refusal)
-    }
-}
-
-fn cell(reply: ValueReply) -> Answer {
-    let found = (reply.offset, reply.len, reply.flag != 0);
-    let cell = (reply.absent == 0).then_some(found);
-    or_refused(reply.refusal, Answer::Cell(cell))
-}
-
-fn run_separate(a: &Key, b: &Key) -> Outcome {
-    let before = [0x5a; 32];
-    match ours::separate(a, b, &before) {
-        Err(damage) => Outcome::Damaged(damage),
-        Ok(ours) if ours.reply == 0 => Outcome::Answered(Answer::Key(ours.out)),
-        Ok(ours) if ours.out == before => Outcome::Answered(Answer::Refused(ours.reply)),
-        Ok(ours) => {
-            let why = format!("refused {}, but changed `out`", ours.reply);
-            Outcome::Damaged(Damage(why))
-        }
-    }
 }
 
 /// The calls of one file.

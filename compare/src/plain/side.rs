@@ -72,7 +72,6 @@ impl Plain {
         }
     }
 
-    /// The new list and store hold something else than zeros, and the work record anything.
     fn open(
         &mut self,
         base: Option<&Base>,
@@ -80,21 +79,7 @@ impl Plain {
         list: usize,
         store: usize,
     ) -> Answered {
-        let held = Entry {
-            kind: HELD,
-            flag: HELD,
-            key: [HELD; 32],
-            ..Entry::default()
-        };
-        let mut new = State {
-            work: Work {
-                low: 7,
-                last: [HELD; 32],
-                ..Work::default()
-            },
-            list: vec![held; list],
-            store: vec![HELD; store],
-        };
+        let mut new = unopened(list, store);
         let before = new.clone();
         let verdict = open(&mut new, base, cutoff);
         let answer = settle(verdict.map(|()| Answer::Accepted), &before, &new)?;
@@ -132,7 +117,7 @@ impl Plain {
     }
 
     /// Page, list and store as a call's further fields want them.
-    fn lent(&self, instead: &Instead) -> Plain {
+    pub fn lent(&self, instead: &Instead) -> Plain {
         let mut lent = self.clone();
         if let Some(page) = &instead.page {
             lent.page = page.clone();
@@ -237,6 +222,25 @@ impl Plain {
     }
 }
 
+/// What an opening is lent: list and store hold something else than zeros, and the work record anything.
+pub fn unopened(list: usize, store: usize) -> State {
+    let held = Entry {
+        kind: HELD,
+        flag: HELD,
+        key: [HELD; 32],
+        ..Entry::default()
+    };
+    State {
+        work: Work {
+            low: 7,
+            last: [HELD; 32],
+            ..Work::default()
+        },
+        list: vec![held; list],
+        store: vec![HELD; store],
+    }
+}
+
 fn listed(entry: &Entry) -> answers::Entry {
     if entry.kind == INSERT {
         return answers::Entry::Insert {
@@ -254,7 +258,7 @@ fn listed(entry: &Entry) -> answers::Entry {
 }
 
 /// A refused call must have changed nothing.
-fn settle(reply: Result<Answer, u8>, before: &State, after: &State) -> Answered {
+pub fn settle(reply: Result<Answer, u8>, before: &State, after: &State) -> Answered {
     match reply {
         Ok(answer) => Ok(answer),
         Err(number) if before == after => Ok(Answer::Refused(number)),

@@ -1,8 +1,10 @@
-//! The plain functions and the unchanged Rust in one sequence of calls, compared after each.
+//! The plain functions and the unchanged Rust in one sequence of calls, compared after each; and the library beside the plain
+//! functions, on every call that it has, refused ones and those on damaged works among them.
 
 use super::claim::Claim;
 use crate::hex;
 use crate::oracle::updater::Updater;
+use crate::ours::side::Library;
 use crate::pages::made;
 use crate::plain::pending;
 use crate::plain::side::Plain;
@@ -38,6 +40,19 @@ fn names(call: &Call) -> [&'static str; 2] {
     }
 }
 
+/// The names of the library's calls.
+fn library_names(call: &Call) -> [&'static str; 2] {
+    match call {
+        Call::Open { .. } => ["opening", "opening, refused"],
+        Call::Next { .. } => ["next base", "next base, refused"],
+        Call::Uncut { .. } => ["cutoff removal", "cutoff removal, refused"],
+        Call::Twin { .. } => ["twin and part", "twin and part, refused"],
+        Call::Scope { .. } => ["is_in_scope"; 2],
+        Call::Separator => ["separator"; 2],
+        _ => ["twin and part, all pending"; 2],
+    }
+}
+
 impl Pair {
     pub fn new() -> Self {
         Pair {
@@ -50,7 +65,7 @@ impl Pair {
 
     /// A call of the sequence. Accepted, it goes to the Rust too, and everything is compared.
     pub fn run(&mut self, call: Call, due: Due, tally: &mut Tally) -> Result<(), Mismatch> {
-        let answer = self.answer(&call)?;
+        let answer = self.answer(&call, tally)?;
         if let Some(number) = due {
             self.same(&call, "answer", &answer, &Answer::Refused(number))?;
             tally.refused(names(&call)[1], number);
@@ -65,9 +80,27 @@ impl Pair {
         Ok(())
     }
 
-    fn answer(&mut self, call: &Call) -> Result<Answer, Mismatch> {
+    /// The plain functions' answer. The library, lent the same, must give it too and leave the same.
+    fn answer(&mut self, call: &Call, tally: &mut Tally) -> Result<Answer, Mismatch> {
+        let held = self.plain.clone();
         let answer = self.plain.answer(call);
-        answer.map_err(|damage| self.mismatch(call, vec![("plain", damage.0)]))
+        let answer = answer.map_err(|damage| self.mismatch(call, vec![("plain", damage.0)]))?;
+        let mut library = Library { held };
+        let Some(ours) = library.answer(call) else {
+            return Ok(answer);
+        };
+        let ours = ours.map_err(|damage| self.mismatch(call, vec![("library", damage.0)]))?;
+        self.same(call, "answer of the library", &answer, &ours)?;
+        if self.plain.state != library.held.state || self.plain.page != library.held.page {
+            let work = (&self.plain.state.work, &library.held.state.work);
+            return Err(self.differ(call, "what the library leaves", &work.0, &work.1));
+        }
+        let [accepted, refused] = library_names(call);
+        match answer {
+            Answer::Refused(number) => tally.refused(refused, number),
+            _ => tally.agreed(accepted),
+        }
+        Ok(answer)
     }
 
     /// A call on a damaged work. Refused, it must have changed nothing, and where a number is due it must be that one.
@@ -80,7 +113,7 @@ impl Pair {
     ) -> Result<(), Mismatch> {
         let mut pair = Pair::new();
         pair.plain = damaged.clone();
-        let answer = pair.answer(call)?;
+        let answer = pair.answer(call, tally)?;
         if let Some(number) = due {
             pair.same(call, "answer", &answer, &Answer::Refused(number))?;
         }
@@ -148,7 +181,7 @@ impl Pair {
             calls.push(Call::Dump);
         }
         for call in calls {
-            let answer = self.answer(&call)?;
+            let answer = self.answer(&call, tally)?;
             let rust = self.rust.answer(&call);
             self.same(&call, "answer", &answer, &rust)?;
             tally.agreed(names(&call)[0]);

@@ -32,6 +32,7 @@ ghost use Rattle.leaf_open.specs.Opening.{openingOf, openBaseVerdict};
 ghost use Rattle.leaf_open.specs.Again.{closedVerdict, followsVerdict};
 
 // A refusal, or 0, and the work record after the call: of a refused call the one that it was given.
+#[repr(C)]
 pub struct Updated {
     pub refusal: u8,
     pub work: Work,

@@ -1,5 +1,6 @@
 -- Each case of a reply and the struct of numbers that stands for it. Assumes nothing.
 use mathlib.Core.Path.{_≡_}
+use mathlib.Core.Bool.{Bool, cond}
 use Prim.Native.Nat.{ℕ}
 use Rattle.leaf_node.specs.declared.Cell.{Cell}
 use Rattle.leaf_node.specs.declared.ValueReply.{ValueReply}
@@ -32,3 +33,6 @@ size-refused r n e = rw e
 
 pub size-given : (r : SizeReply) (b : ℕ) → r ≡ sizes.Bytes b → record { refusal = 0; bytes = b } ≡ sizeOut r
 size-given r b e = rw e
+
+pub truth-out : (n : ℕ) (a b : Bool) → a ≡ b → n ≡ cond a 1 0 → n ≡ cond b 1 0
+truth-out n a b e f = rw (← e) f

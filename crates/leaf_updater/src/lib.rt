@@ -6,6 +6,9 @@ use leaf_node::GetReply;
 use leaf_node::KeyReply;
 use leaf_node::SizeReply;
 use leaf_node::ValueReply;
+use leaf_open::Updated;
+use leaf_pending::TwinPlace;
+use leaf_work::Work;
 ghost use mathlib.Core.Path.{_≡_};
 ghost use mathlib.Core.Bool.{cond};
 ghost use lib.ListN.{length};
@@ -13,6 +16,13 @@ ghost use Rattle.bit_ops.specs.Separate.{sharedBits, separateVerdict, separateL
 ghost use Rattle.leaf_node.specs.Good.{pageVerdict};
 ghost use Rattle.leaf_node.specs.Reply.{keyReply, valueReply, getReply, sizeReply};
 ghost use Rattle.leaf_builder.specs.Rebuild.{rebuildVerdict, rebuildLeaves};
+ghost use Rattle.leaf_work.specs.Tests.{isSet};
+ghost use Rattle.leaf_work.specs.Lent.{separatorOf};
+ghost use Rattle.leaf_work.specs.Flat.{listOf, rowsAfter, keysAfter};
+ghost use Rattle.leaf_work.specs.Outcome.{Opened, openOf, replyNumber, Changed, nextBaseOf, removeCutoffOf, twinOf, partOf, inScopeOf};
+ghost use Rattle.leaf_open.specs.Opening.{openingOf};
+ghost use Rattle.leaf_pending.specs.Reply.{twinOut};
+ghost use Rattle.leaf_updater.specs.Copy.{copiedWhole};
 ghost use Rattle.leaf_updater.specs.Reply.{keyOut, refusedValue, foundValue, valueOut, getOut, sizeOut};
 
 // ---- keys
@@ -193,4 +203,125 @@ pub extern "C" fn leaf_page_rebuild(
     ensures { λ _. ⌜ now (out .exit) ≡ rebuildLeaves 4096 (now (page .entry)) from mid to (now (out .entry)) ⌝ }
 {
     leaf_builder::rebuild(page, from, mid, to, out)
+}
+
+// ---- works, over the flat list: rows of five numbers, and beside them the keys. A flag is set where it is not 0. An absent
+// page, separator or cutoff is ignored, whatever stands there.
+
+// Opens a work, with a base or with none. Answers 0 and the new work record, list and store filled with zeros, or the refusal,
+// and then everything is as it was.
+#[no_mangle]
+pub extern "C" fn leaf_flat_open(
+    based: u8,
+    page: &[u8],
+    separator: &[u8; 32],
+    cut: u8,
+    cutoff: &[u8; 32],
+    work: Work,
+    rows: &mut [[usize; 5]],
+    keys: &mut [[u8; 32]],
+    store: &mut [u8],
+) -> Updated
+    ensures { λ r. ⌜ (let o : Opened = openOf 4096 (openingOf (isSet based) (now (page .entry)) (now (separator .entry)) (isSet cut) (now (cutoff .entry))) work (listOf (now (rows .entry)) (now (keys .entry))) (now (store .entry)) in (r .refusal ≡ replyNumber (o .reply)) × (r .work ≡ o .work) × (now (rows .exit) ≡ rowsAfter (replyNumber (o .reply)) (o .list) (now (rows .entry))) × (now (keys .exit) ≡ keysAfter (replyNumber (o .reply)) (o .list) (now (keys .entry))) × (now (store .exit) ≡ o .store)) ⌝ }
+{
+    leaf_open::open(
+        based != 0,
+        page,
+        separator,
+        cut != 0,
+        cutoff,
+        work,
+        rows,
+        keys,
+        store,
+    )
+}
+
+// The next base of a work that waits, or is done and has a cutoff.
+#[no_mangle]
+pub extern "C" fn leaf_flat_next_base(
+    work: Work,
+    rows: &[[usize; 5]],
+    keys: &[[u8; 32]],
+    store: &[u8],
+    page: &[u8],
+    separator: &[u8; 32],
+    cut: u8,
+    cutoff: &[u8; 32],
+) -> Updated
+    ensures { λ r. ⌜ (let o : Changed = nextBaseOf 4096 work (listOf (now (rows .entry)) (now (keys .entry))) (now (store .entry)) (now (page .entry)) (now (separator .entry)) (isSet cut) (now (cutoff .entry)) in (r .refusal ≡ replyNumber (o .reply)) × (r .work ≡ o .work)) ⌝ }
+{
+    leaf_open::next_base(work, rows, keys, store, page, separator, cut != 0, cutoff)
+}
+
+// Removes the cutoff of a work that waits.
+#[no_mangle]
+pub extern "C" fn leaf_flat_remove_cutoff(
+    work: Work,
+    rows: &[[usize; 5]],
+    keys: &[[u8; 32]],
+    store: &[u8],
+) -> Updated
+    ensures { λ r. ⌜ (let o : Changed = removeCutoffOf 4096 work (listOf (now (rows .entry)) (now (keys .entry))) (now (store .entry)) in (r .refusal ≡ replyNumber (o .reply)) × (r .work ≡ o .work)) ⌝ }
+{
+    leaf_open::remove_cutoff(work, rows, keys, store)
+}
+
+// Pending record i: where its value lies, its key and its flag.
+#[no_mangle]
+pub extern "C" fn leaf_flat_twin(
+    work: Work,
+    rows: &[[usize; 5]],
+    keys: &[[u8; 32]],
+    store: &[u8],
+    page: &[u8],
+    i: usize,
+) -> TwinPlace
+    ensures { λ r. ⌜ r ≡ twinOut (twinOf 4096 work (listOf (now (rows .entry)) (now (keys .entry))) (now (store .entry)) (now (page .entry)) i) ⌝ }
+{
+    leaf_pending::twin(work, rows, keys, store, page, i)
+}
+
+// The value of pending record i, copied to the start of out where out has room for it. Answers the value's length; a refused
+// read has none.
+#[no_mangle]
+pub extern "C" fn leaf_flat_part<'a>(
+    work: Work,
+    rows: &[[usize; 5]],
+    keys: &[[u8; 32]],
+    store: &'a [u8],
+    page: &'a [u8],
+    i: usize,
+    out: &mut [u8],
+) -> usize
+    ensures { λ r. ⌜ r ≡ length (partOf 4096 work (listOf (now (rows .entry)) (now (keys .entry))) (now (store .entry)) (now (page .entry)) i) ⌝ }
+    ensures { λ _. ⌜ now (out .exit) ≡ copiedWhole (partOf 4096 work (listOf (now (rows .entry)) (now (keys .entry))) (now (store .entry)) (now (page .entry)) i) (now (out .entry)) ⌝ }
+{
+    copy_whole(leaf_pending::part(work, rows, keys, store, page, i), out)
+}
+
+fn copy_whole(bytes: &[u8], out: &mut [u8]) -> usize
+    ensures { λ r. ⌜ (r ≡ length (now (bytes .entry))) × (now (out .exit) ≡ copiedWhole (now (bytes .entry)) (now (out .entry))) ⌝ }
+{
+    if out.len() < bytes.len() {
+        return bytes.len();
+    }
+    leaf_node::copy_in(bytes, out, 0);
+    bytes.len()
+}
+
+// Whether a key may still come, 1 or 0: it is below the cutoff, where there is one.
+#[no_mangle]
+pub extern "C" fn leaf_flat_is_in_scope(work: Work, key: &[u8; 32]) -> u8
+    ensures { λ r. ⌜ r ≡ cond (inScopeOf work (now (key .entry))) 1 0 ⌝ }
+{
+    bit(leaf_work::is_in_scope(work, key))
+}
+
+// Writes the current separator into out.
+#[no_mangle]
+pub extern "C" fn leaf_flat_separator(work: Work, out: &mut [u8; 32])
+    ensures { λ _. ⌜ now (out .exit) ≡ separatorOf work ⌝ }
+{
+    *out = leaf_work::separator(work);
 }
