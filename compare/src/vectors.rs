@@ -25,6 +25,13 @@ pub trait Side {
     fn run(&mut self, call: &Call) -> Outcome;
 }
 
+#[cfg(test)]
+impl<F: FnMut(&Call) -> Outcome> Side for F {
+    fn run(&mut self, call: &Call) -> Outcome {
+        self(call)
+    }
+}
+
 /// The calls of one file.
 #[derive(Default)]
 struct Sequence {

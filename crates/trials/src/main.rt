@@ -3,6 +3,7 @@
 mod keys;
 mod line;
 mod pages;
+mod works;
 
 fn main() {
     line::say(
@@ -10,4 +11,5 @@ fn main() {
     );
     keys::run();
     pages::run();
+    works::run();
 }
