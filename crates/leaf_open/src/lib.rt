@@ -229,7 +229,8 @@ fn closed_verdict(
     requires { ⌜ PageSize size ⌝ }
     ensures { λ r. ⌜ r ≡ closedVerdict size work (listOf (now (rows .entry)) (now (keys .entry))) (now (store .entry)) ⌝ }
 {
-    if !room_right(rows, keys, store, size) {
+    let room = room_right(rows, keys, store, size);
+    if !room {
         return ROOM_LENGTH;
     }
     if work.turn == 1 {
