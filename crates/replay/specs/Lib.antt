@@ -1,2 +1,3 @@
 -- What the program counts.
 pub mod Counts
+pub mod Parts

@@ -1,7 +1,9 @@
 // Bytes of a record. Past its end they are zero, so that no length must be shown here.
 ghost use mathlib.Core.Path.{_≡_};
 ghost use Prim.Native.Nat.{_<_, _+_, _*_};
-ghost use lib.ListN.{getD};
+ghost use lib.ListN.{length, getD};
+ghost use Rattle.leaf_work.specs.Tests.{sameBytes};
+ghost use Rattle.replay.specs.Parts.{keyFrom, hasAt};
 
 pub(crate) fn byte(s: &[u8], at: usize) -> u8
     ensures { λ r. ⌜ r ≡ getD (now (s .entry)) at 0 ⌝ }
@@ -27,33 +29,28 @@ pub(crate) fn number(s: &[u8], at: usize) -> usize
     }
 }
 
-// The 32 bytes from `at` on.
-pub(crate) fn key(s: &[u8], at: usize) -> [u8; 32] {
+// The 32 bytes from `at` on; zeros where the record ends before.
+pub(crate) fn key(s: &[u8], at: usize) -> [u8; 32]
+    ensures { λ r. ⌜ r ≡ keyFrom (now (s .entry)) at ⌝ }
+{
     let mut out = [0u8; 32];
-    let mut i = 0;
-    while i < 32 {
-        if at < 8192 {
-            out[i] = byte(s, at + i);
-        }
-        i += 1;
+    if s.len() < 32 {
+        return out;
     }
+    if s.len() - 32 < at {
+        return out;
+    }
+    leaf_node::copy_in(&s[at..at + 32], &mut out, 0);
     out
 }
 
-// Whether the record has these bytes from `at` on.
-pub(crate) fn same(s: &[u8], at: usize, bytes: &[u8]) -> bool {
-    if 8192 < at {
-        return false;
-    }
+fn equal(a: &[u8], b: &[u8]) -> bool
+    requires { ⌜ length (now a) ≡ length (now b) ⌝ }
+    ensures { λ r. ⌜ r ≡ sameBytes (now (a .entry)) (now (b .entry)) ⌝ }
+{
     let mut i = 0;
-    while i < bytes.len() {
-        if s.len() <= i {
-            return false;
-        }
-        if s.len() - i <= at {
-            return false;
-        }
-        if s[at + i] != bytes[i] {
+    while i < a.len() {
+        if a[i] != b[i] {
             return false;
         }
         i += 1;
@@ -61,7 +58,23 @@ pub(crate) fn same(s: &[u8], at: usize, bytes: &[u8]) -> bool {
     true
 }
 
+// Whether the record has these bytes from `at` on.
+pub(crate) fn same(s: &[u8], at: usize, bytes: &[u8]) -> bool
+    ensures { λ r. ⌜ r ≡ hasAt (now (s .entry)) at (now (bytes .entry)) ⌝ }
+{
+    let n = bytes.len();
+    if s.len() < n {
+        return false;
+    }
+    if s.len() - n < at {
+        return false;
+    }
+    equal(&s[at..at + n], bytes)
+}
+
 // The same for a key. Of an array behind a reference the checker knows the length.
-pub(crate) fn same_key(s: &[u8], at: usize, key: &[u8; 32]) -> bool {
+pub(crate) fn same_key(s: &[u8], at: usize, key: &[u8; 32]) -> bool
+    ensures { λ r. ⌜ r ≡ hasAt (now (s .entry)) at (now (key .entry)) ⌝ }
+{
     same(s, at, key)
 }

@@ -1,50 +1,51 @@
--- `replay::bytes::key` is safe and ends.
-use Prim.Native.Nat.{_≤_, _-_}
+-- `replay::bytes::key` meets its contract.
+-- Assumes nothing.
+use Rattle.replay.proofs.Parts.{a-short-record-has-no-key, no-key-behind-the-end, the-key-is-copied}
 use borrow.Author.Needs.{needs}
 use Rattle.replay.proofs.bytes.key.Statement.{statement}
 use Rattle.replay.proofs.bytes.key.Tie as tie
 
-abbrev Inv-loop : tie.InvT-loop
-Inv-loop s at out₀ i₀ out i = i ≤ 32
+returns : tie.Need-returns
+returns c = search (a-short-record-has-no-key, needs)
 
-abbrev μ-loop : tie.MeasureT-loop
-μ-loop s at out₀ i₀ out i = 32 - i
+sub-if2 : tie.Need-sub-if2
+sub-if2 c = search needs
 
-loop-holds : tie.Need-loop-holds Inv-loop μ-loop
-loop-holds c = search needs
+returns-2 : tie.Need-returns-2
+returns-2 c = search (no-key-behind-the-end, needs)
 
-add-byte : tie.Need-add-byte Inv-loop μ-loop
-add-byte c = search needs
+add-copy-in : tie.Need-add-copy-in
+add-copy-in c = search needs
 
-byte-requires : tie.Need-byte-requires Inv-loop μ-loop
-byte-requires c κs = search needs
+sub-copy-in : tie.Need-sub-copy-in
+sub-copy-in c = search needs
 
-array-write-out : tie.Need-array-write-out Inv-loop μ-loop
-array-write-out c = search needs
+part-copy-in-start : tie.Need-part-copy-in-start
+part-copy-in-start c = search needs
 
-add-i : tie.Need-add-i Inv-loop μ-loop
-add-i c = search needs
+part-copy-in-end : tie.Need-part-copy-in-end
+part-copy-in-end c = search needs
 
-loop-less : tie.Need-loop-less Inv-loop μ-loop
-loop-less c = search needs
+slice-aggregate-copy-in : tie.Need-slice-aggregate-copy-in
+slice-aggregate-copy-in c = search needs
 
-loop-again : tie.Need-loop-again Inv-loop μ-loop
-loop-again c = search needs
+copy-in-requires : tie.Need-copy-in-requires
+copy-in-requires c κs = search needs
 
-returns : tie.Need-returns Inv-loop μ-loop
-returns c = search needs
+returns-3 : tie.Need-returns-3
+returns-3 c = search (the-key-is-copied, needs)
 
 pub key-spec : {M : Type 1} → statement M
 key-spec =
     tie.close
     (tie.spec
-    Inv-loop
-    μ-loop
-    loop-holds
-    add-byte
-    byte-requires
-    array-write-out
-    add-i
-    loop-less
-    loop-again
-    returns)
+    returns
+    sub-if2
+    returns-2
+    add-copy-in
+    sub-copy-in
+    part-copy-in-start
+    part-copy-in-end
+    slice-aggregate-copy-in
+    copy-in-requires
+    returns-3)

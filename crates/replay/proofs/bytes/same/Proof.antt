@@ -1,71 +1,47 @@
--- `replay::bytes::same` is safe and ends.
-use Prim.Native.Nat.{_≤_, _-_}
-use lib.ListN.{length}
+-- `replay::bytes::same` meets its contract.
+-- Assumes nothing.
+use Rattle.replay.proofs.Parts.{the-record-is-shorter, the-record-ends-before, the-bytes-decide, part-is-as-long}
 use borrow.Author.Needs.{needs}
 use Rattle.replay.proofs.bytes.same.Statement.{statement}
 use Rattle.replay.proofs.bytes.same.Tie as tie
 
-abbrev Inv-loop : tie.InvT-loop
-Inv-loop s at bytes i₀ i = i ≤ length bytes
+returns : tie.Need-returns
+returns c = search (the-record-is-shorter, needs)
 
-abbrev μ-loop : tie.MeasureT-loop
-μ-loop s at bytes i₀ i = length bytes - i
+sub-if2 : tie.Need-sub-if2
+sub-if2 c = search needs
 
-returns : tie.Need-returns Inv-loop μ-loop
-returns c = search needs
+returns-2 : tie.Need-returns-2
+returns-2 c = search (the-record-ends-before, needs)
 
-loop-holds : tie.Need-loop-holds Inv-loop μ-loop
-loop-holds c = search needs
+add-equal : tie.Need-add-equal
+add-equal c = search needs
 
-returns-2 : tie.Need-returns-2 Inv-loop μ-loop
-returns-2 c = search needs
+sub-equal : tie.Need-sub-equal
+sub-equal c = search needs
 
-sub-if3 : tie.Need-sub-if3 Inv-loop μ-loop
-sub-if3 c = search needs
+part-equal-start : tie.Need-part-equal-start
+part-equal-start c = search needs
 
-returns-3 : tie.Need-returns-3 Inv-loop μ-loop
-returns-3 c = search needs
+part-equal-end : tie.Need-part-equal-end
+part-equal-end c = search needs
 
-add-if4 : tie.Need-add-if4 Inv-loop μ-loop
-add-if4 c = search needs
+equal-requires : tie.Need-equal-requires
+equal-requires c κs = search (part-is-as-long, needs)
 
-shared-slice-read-if4 : tie.Need-shared-slice-read-if4 Inv-loop μ-loop
-shared-slice-read-if4 c = search needs
-
-shared-slice-read-if4-2 : tie.Need-shared-slice-read-if4-2 Inv-loop μ-loop
-shared-slice-read-if4-2 c = search needs
-
-returns-4 : tie.Need-returns-4 Inv-loop μ-loop
-returns-4 c = search needs
-
-add-i : tie.Need-add-i Inv-loop μ-loop
-add-i c = search needs
-
-loop-less : tie.Need-loop-less Inv-loop μ-loop
-loop-less c = search needs
-
-loop-again : tie.Need-loop-again Inv-loop μ-loop
-loop-again c = search needs
-
-returns-5 : tie.Need-returns-5 Inv-loop μ-loop
-returns-5 c = search needs
+returns-3 : tie.Need-returns-3
+returns-3 c = search (the-bytes-decide, needs)
 
 pub same-spec : {M : Type 1} → statement M
 same-spec =
     tie.close
     (tie.spec
-    Inv-loop
-    μ-loop
     returns
-    loop-holds
+    sub-if2
     returns-2
-    sub-if3
-    returns-3
-    add-if4
-    shared-slice-read-if4
-    shared-slice-read-if4-2
-    returns-4
-    add-i
-    loop-less
-    loop-again
-    returns-5)
+    add-equal
+    sub-equal
+    part-equal-start
+    part-equal-end
+    equal-requires
+    returns-3)
