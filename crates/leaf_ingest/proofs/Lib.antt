@@ -1,0 +1,4 @@
+-- Laws on plain values, for the functions' proofs.
+pub mod Keeping
+pub mod Numbers
+pub mod Writing

@@ -1,0 +1,159 @@
+-- What an accepted ingest writes: entries behind the used ones, and its report. Assumes nothing.
+use mathlib.Core.Path.{_≡_, refl, sym, ap, _∙_}
+use mathlib.Core.Bool.{Bool, true, false, not}
+use mathlib.Core.List.{List, [], _∷_, _++_, append-nil, append-assoc}
+use Prim.Native.Nat.{ℕ, zero, suc, _+_, _-_, _≤_, _<_}
+use native.Mathlib.Omega.{arith}
+use native.Mathlib.Nat.{add-zero}
+use lib.ListN.{length, set, take, drop, replicate, length-append, length-map, take-append-drop}
+use lib.Seq.{length-take-le, take-append-add, drop-append-add, drop-drop}
+use borrow.Author.Tests.{lt-ltb, le-ltb, not-true, not-false}
+use Rattle.leaf_node.specs.Page.{start, lengthAt, flagAt}
+use Rattle.leaf_node.specs.Steps.{Readable}
+use Rattle.leaf_node.specs.Build.{put}
+use Rattle.leaf_work.specs.declared.Work.{Work}
+use Rattle.leaf_work.specs.declared.Entry.{Entry}
+use Rattle.leaf_work.specs.Tests.{bit}
+use Rattle.leaf_work.specs.Flat.{rowOf}
+use Rattle.leaf_work.specs.TakingUp.{valueOf}
+use Rattle.leaf_work.specs.Outcome as outcome
+use Rattle.leaf_work.proofs.Tests.{map-append}
+use Rattle.leaf_ingest.specs.declared.Change as taken
+use Rattle.leaf_ingest.specs.declared.Change.the-variants.{Put, Delete}
+use Rattle.leaf_ingest.specs.declared.Kept.{Kept}
+use Rattle.leaf_ingest.specs.declared.Report.{Report}
+use Rattle.leaf_ingest.specs.Reply.{changeOf, replyOf}
+use Rattle.leaf_ingest.specs.Steps.{Sizes, addedBy, spliced, chunkEntries, insertEntries, entriesWith, rowsOf, keysOf, reportBy, workWith, Room, Stepped}
+use Rattle.leaf_ingest.proofs.Numbers.{added-records}
+
+-- ---- elements in the place of others
+
+module _ {A : Type 0} where
+  pub spliced-none : (xs : List A) (at : ℕ) → spliced xs at [] ≡ xs
+  unfolding spliced
+  spliced-none xs at = rw (add-zero at, append-nil (take at xs)) (take-append-drop at xs)
+
+  pub spliced-one : (xs : List A) (at : ℕ) (x : A) → at < length xs → set xs at x ≡ spliced xs at (x ∷ [])
+  unfolding spliced
+  spliced-one [] at x h = absurd (omega arith)
+  spliced-one (y ∷ xs) zero x h = refl
+  spliced-one (y ∷ xs) (suc at) x h =
+      let e : suc at + 1 ≡ suc (at + 1) = omega arith in
+      rw e (ap (λ (l : List A). y ∷ l) (spliced-one xs at x (omega arith)))
+
+  pub spliced-twice : (xs : List A) (at : ℕ) (a b : List A) → at ≤ length xs → spliced (spliced xs at a) (at + length a) b ≡ spliced xs at (a ++ b)
+  unfolding spliced
+  spliced-twice xs at a b h =
+      let p : List A = take at xs ++ a in
+      let d : List A = drop (at + length a) xs in
+      let l : length p ≡ at + length a = length-append (take at xs) a ∙ ap (λ (n : ℕ). n + length a) (length-take-le at xs h) in
+      let n : at + length a + length b ≡ at + length (a ++ b) = omega (arith, length-append a b) in
+      let u : drop (at + length a + length b) (p ++ d) ≡ drop (at + length (a ++ b)) xs = behind p d (at + length a) (length b) l ∙ drop-drop (length b) (at + length a) xs ∙ rw n in
+      rw (front p d (at + length a) l, u) (ap (λ (r : List A). r ++ drop (at + length (a ++ b)) xs) (append-assoc (take at xs) a b))
+    where
+      front : (p d : List A) (n : ℕ) → length p ≡ n → take n (p ++ d) ≡ p
+      front p d n l = rw (← l, ← add-zero (length p), take-append-add p d 0) (append-nil p)
+
+      behind : (p d : List A) (n m : ℕ) → length p ≡ n → drop (n + m) (p ++ d) ≡ drop m d
+      behind p d n m l = rw (← l) (drop-append-add p d m)
+
+-- ---- the new entries
+
+module _ (rows keys : List (List ℕ)) (at low stop sum : ℕ) where
+  pub no-chunk-is-listed : stop ≤ low
+      → (at ≡ at + length (chunkEntries low stop sum)) × (at ≤ at + (stop - low)) × (rows ≡ spliced rows at (rowsOf (chunkEntries low stop sum)))
+      × (keys ≡ spliced keys at (keysOf (chunkEntries low stop sum)))
+  unfolding chunkEntries
+  no-chunk-is-listed h = rw (chunkEntries, le-ltb low stop h) (omega arith, omega arith, sym (spliced-none rows at), sym (spliced-none keys at))
+
+  pub a-chunk-is-listed : low < stop → at + (stop - low) ≤ length rows → length rows ≡ length keys
+      → (at + 1 ≡ at + length (chunkEntries low stop sum)) × (at + 1 ≤ at + (stop - low)) × (set rows at (2 ∷ 0 ∷ low ∷ stop ∷ sum ∷ []) ≡ spliced rows at (rowsOf (chunkEntries low stop sum)))
+      × (set keys at (replicate 32 0) ≡ spliced keys at (keysOf (chunkEntries low stop sum)))
+  unfolding chunkEntries
+  a-chunk-is-listed h r e =
+      rw (chunkEntries, lt-ltb low stop h) (refl, omega arith, spliced-one rows at (2 ∷ 0 ∷ low ∷ stop ∷ sum ∷ []) (omega arith), spliced-one keys at (replicate 32 0) (omega arith))
+
+module _ (rows keys : List (List ℕ)) (at from : ℕ) (k : List ℕ) (change : taken.Change) (value : List ℕ) where
+  pub a-deletion-lists-nothing : change ≡ Delete
+      → (at ≡ at + length (insertEntries from k (changeOf change value))) × (rows ≡ spliced rows at (rowsOf (insertEntries from k (changeOf change value))))
+      × (keys ≡ spliced keys at (keysOf (insertEntries from k (changeOf change value))))
+  unfolding insertEntries
+  a-deletion-lists-nothing e = rw e (omega arith, sym (spliced-none rows at), sym (spliced-none keys at))
+
+  module _ (flag : Bool) (e : change ≡ Put flag) (r : at + addedBy change ≤ length rows) where
+    pub an-insert-has-a-row : at < length rows
+    an-insert-has-a-row = let s : at + 1 ≤ length rows = rw e at r in omega arith
+
+    pub an-insert-has-a-key : length rows ≡ length keys → at < length keys
+    an-insert-has-a-key l = omega (arith, an-insert-has-a-row)
+
+    pub an-insert-is-listed : length rows ≡ length keys → (b : ℕ) → b ≡ bit flag
+        → (at + 1 ≡ at + length (insertEntries from k (changeOf change value)))
+        × (set rows at (1 ∷ b ∷ from ∷ (from + length value) ∷ 0 ∷ []) ≡ spliced rows at (rowsOf (insertEntries from k (changeOf change value))))
+        × (set keys at k ≡ spliced keys at (keysOf (insertEntries from k (changeOf change value))))
+    unfolding insertEntries
+    an-insert-is-listed l b f =
+        rw (e, f) (refl, spliced-one rows at (1 ∷ bit flag ∷ from ∷ (from + length value) ∷ 0 ∷ []) an-insert-has-a-row, spliced-one keys at k (an-insert-has-a-key l))
+
+-- first `chunk`, then `insert`
+module _ (rows keys : List (List ℕ)) (at : ℕ) (chunk insert : List Entry) (h : at ≤ length rows) (l : length rows ≡ length keys) (next : ℕ) (e : next ≡ at + length chunk) where
+  pub entries-stand-behind-each-other : (rows′ keys′ rows″ keys″ : List (List ℕ)) (last : ℕ) → rows′ ≡ spliced rows at (rowsOf chunk) → keys′ ≡ spliced keys at (keysOf chunk)
+      → last ≡ next + length insert → rows″ ≡ spliced rows′ next (rowsOf insert) → keys″ ≡ spliced keys′ next (keysOf insert)
+      → (last ≡ at + length (chunk ++ insert)) × (rows″ ≡ spliced rows at (rowsOf (chunk ++ insert))) × (keys″ ≡ spliced keys at (keysOf (chunk ++ insert)))
+  entries-stand-behind-each-other rows′ keys′ rows″ keys″ last p q f u v = (
+    omega (arith, length-append chunk insert),
+    u ∙ rw (p, e, ← length-map chunk rowOf, map-append rowOf chunk insert) (spliced-twice rows at (rowsOf chunk) (rowsOf insert) h),
+    v ∙ rw (q, e, ← length-map chunk (λ (x : Entry). x .key), map-append (λ (x : Entry). x .key) chunk insert) (spliced-twice keys at (keysOf chunk) (keysOf insert) (omega arith)),
+  )
+
+-- ---- the report
+
+module _ (low : ℕ) (page : List ℕ) (z : Kept) where
+  pub what-is-not-dropped-is-not-reported : not (z .dropped) ≡ true → outcome.Quiet ≡ reportBy low page (z .stop) (z .dropped)
+  unfolding reportBy
+  what-is-not-dropped-is-not-reported h = rw (not-true (z .dropped) h)
+
+  module _ (d : not (z .dropped) ≡ false) where
+    pub a-dropped-record-is-readable : (z .dropped ≡ true → Readable page (z .stop)) → Readable page (z .stop)
+    a-dropped-record-is-readable r = r (not-false (z .dropped) d)
+
+    pub the-first-record-is-not-reported : z .stop ≤ low → outcome.Quiet ≡ reportBy low page (z .stop) (z .dropped)
+    unfolding reportBy
+    the-first-record-is-not-reported h = go (flagAt page (z .stop)) refl
+      where
+        go : (b : Bool) → flagAt page (z .stop) ≡ b → outcome.Quiet ≡ reportBy low page (z .stop) (z .dropped)
+        go true e = rw (not-false (z .dropped) d, e, le-ltb low (z .stop) h, reportBy)
+        go false e = rw (not-false (z .dropped) d, e, reportBy)
+
+    module _ (l : low < z .stop) (f : Bool) (e : f ≡ flagAt page (z .stop)) where
+      pub a-flagged-record-is-reported : (a n : ℕ) → f ≡ true → a ≡ start page (z .stop) → n ≡ lengthAt page (z .stop) → outcome.Reported a n ≡ reportBy low page (z .stop) (z .dropped)
+      unfolding reportBy
+      a-flagged-record-is-reported a n t p q = rw (not-false (z .dropped) d, ← e, t, lt-ltb low (z .stop) l, p, q, reportBy)
+
+      pub a-plain-record-is-not-reported : f ≡ false → outcome.Quiet ≡ reportBy low page (z .stop) (z .dropped)
+      unfolding reportBy
+      a-plain-record-is-not-reported t = rw (not-false (z .dropped) d, ← e, t, reportBy)
+
+-- ---- all of it
+
+module _ (w : Work) (page : List ℕ) (z : Kept) (change : taken.Change) (value : List ℕ) (rows keys : List (List ℕ)) (store : List ℕ)
+    (r : Room w page z (addedBy change) (length (valueOf (changeOf change value))) rows keys store) (x : List ℕ) (e : x ≡ valueOf (changeOf change value)) where
+  pub the-value-has-room : w .filled + length x ≤ length store
+  the-value-has-room = rw e (r .store-room)
+
+  pub the-gauge-is-small : (a : ℕ) → a ≡ addedBy change → (Sizes w z a) × (w .filled + length x ≤ 65536)
+  the-gauge-is-small a f = (rw f (r .sizes), omega (arith, the-value-has-room, r .store-short))
+
+  pub an-accepted-ingest-is-stepped : (k : List ℕ) (used : ℕ) (rows′ keys′ : List (List ℕ)) (store′ : List ℕ) (reply : Report) (a : ℕ) (next : Work)
+      → (used ≡ w .used + length (entriesWith w k z (changeOf change value))) × (rows′ ≡ spliced rows (w .used) (rowsOf (entriesWith w k z (changeOf change value))))
+      × (keys′ ≡ spliced keys (w .used) (keysOf (entriesWith w k z (changeOf change value))))
+      → store′ ≡ put store (w .filled) x → replyOf reply ≡ reportBy (w .low) page (z .stop) (z .dropped) → a ≡ addedBy change → next ≡ workWith w k z used a (length x)
+      → Stepped w page k z (changeOf change value) rows keys store (record { reply = reply; work = next }) rows′ keys′ store′
+  an-accepted-ingest-is-stepped k used rows′ keys′ store′ reply a next u s p f n =
+      record {
+        reply-is = p;
+        work-is = n ∙ rw (u .0, f ∙ added-records change value k, e);
+        rows-is = u .1;
+        keys-is = u .2;
+        store-is = rw e at s;
+      }
