@@ -90,11 +90,11 @@ module _ (size : ℕ) (w : Work) (page : List ℕ) (f : Founded size w page) (n 
 pub what-is-taken-up-is-of-the-base : (w : Work) (page k : List ℕ) (z : Kept) (n : ℕ) → n ≡ count page → Taken w page k z → z .low ≤ n
 what-is-taken-up-is-of-the-base w page k z n e t = omega (arith, t .upto)
 
-range-length : (page : List ℕ) (from to : ℕ) → length (recordsBetween page from to) ≡ to - from
+pub range-length : (page : List ℕ) (from to : ℕ) → length (recordsBetween page from to) ≡ to - from
 unfolding recordsBetween
 range-length page from to = length-run (to - from) from (recordAt page)
 
-range-total : (page : List ℕ) (from to : ℕ) → total (recordsBetween page from to) ≡ valuesSize page from to
+pub range-total : (page : List ℕ) (from to : ℕ) → total (recordsBetween page from to) ≡ valuesSize page from to
 unfolding valuesSize
 range-total page from to = refl
 
@@ -107,10 +107,10 @@ light-by-length size none = sym (le-leb 0 (valueLimit size) (omega arith))
 light-by-length size (some c) = refl
 
 module _ (w : Work) (page k : List ℕ) (z : Kept) (t : Taken w page k z) (n : ℕ) (e : n ≡ count page) where
-  pending-is : (c : Option Change) → countAfter w page k c + length (restAfter w page k) ≡ w .count + (z .stop - w .low) + length (inserted k c) + (n - z .low)
+  pub pending-is : (c : Option Change) → countAfter w page k c + length (restAfter w page k) ≡ w .count + (z .stop - w .low) + length (inserted k c) + (n - z .low)
   pending-is c = rw (range-length, range-length, ← t .low-is, ← t .stop-is, ← e)
 
-  pending-bytes-are : (c : Option Change) → bytesAfter w page k c + total (restAfter w page k) ≡ w .bytes + z .taken + length (valueOf c) + z .rest
+  pub pending-bytes-are : (c : Option Change) → bytesAfter w page k c + total (restAfter w page k) ≡ w .bytes + z .taken + length (valueOf c) + z .rest
   pending-bytes-are c = rw (range-total, range-total, t .taken-is, t .rest-is)
 
   pub the-number-is-that-of-the-call : (size : ℕ) (change : taken.Change) (value : List ℕ) (a : ℕ) (x : List ℕ) (entries bytes v : ℕ) → a ≡ addedBy change

@@ -1,12 +1,10 @@
 -- What an accepted ingest writes: entries behind the used ones, and its report. Assumes nothing.
-use mathlib.Core.Path.{_≡_, refl, sym, ap, _∙_}
+use mathlib.Core.Path.{_≡_, refl, sym, _∙_}
 use mathlib.Core.Bool.{Bool, true, false, not}
-use mathlib.Core.List.{List, [], _∷_, _++_, append-nil, append-assoc}
-use Prim.Native.Nat.{ℕ, zero, suc, _+_, _-_, _≤_, _<_}
+use mathlib.Core.List.{List, [], _∷_, _++_}
+use Prim.Native.Nat.{ℕ, _+_, _-_, _≤_, _<_}
 use native.Mathlib.Omega.{arith}
-use native.Mathlib.Nat.{add-zero}
-use lib.ListN.{length, set, take, drop, replicate, length-append, length-map, take-append-drop}
-use lib.Seq.{length-take-le, take-append-add, drop-append-add, drop-drop}
+use lib.ListN.{length, set, replicate, length-append, length-map}
 use borrow.Author.Tests.{lt-ltb, le-ltb, not-true, not-false}
 use Rattle.leaf_node.specs.Page.{start, lengthAt, flagAt}
 use Rattle.leaf_node.specs.Steps.{Readable}
@@ -25,37 +23,7 @@ use Rattle.leaf_ingest.specs.declared.Report.{Report}
 use Rattle.leaf_ingest.specs.Reply.{changeOf, replyOf}
 use Rattle.leaf_ingest.specs.Steps.{Sizes, addedBy, spliced, chunkEntries, insertEntries, entriesWith, rowsOf, keysOf, reportBy, workWith, Room, Stepped}
 use Rattle.leaf_ingest.proofs.Numbers.{added-records}
-
--- ---- elements in the place of others
-
-module _ {A : Type 0} where
-  pub spliced-none : (xs : List A) (at : ℕ) → spliced xs at [] ≡ xs
-  unfolding spliced
-  spliced-none xs at = rw (add-zero at, append-nil (take at xs)) (take-append-drop at xs)
-
-  pub spliced-one : (xs : List A) (at : ℕ) (x : A) → at < length xs → set xs at x ≡ spliced xs at (x ∷ [])
-  unfolding spliced
-  spliced-one [] at x h = absurd (omega arith)
-  spliced-one (y ∷ xs) zero x h = refl
-  spliced-one (y ∷ xs) (suc at) x h =
-      let e : suc at + 1 ≡ suc (at + 1) = omega arith in
-      rw e (ap (λ (l : List A). y ∷ l) (spliced-one xs at x (omega arith)))
-
-  pub spliced-twice : (xs : List A) (at : ℕ) (a b : List A) → at ≤ length xs → spliced (spliced xs at a) (at + length a) b ≡ spliced xs at (a ++ b)
-  unfolding spliced
-  spliced-twice xs at a b h =
-      let p : List A = take at xs ++ a in
-      let d : List A = drop (at + length a) xs in
-      let l : length p ≡ at + length a = length-append (take at xs) a ∙ ap (λ (n : ℕ). n + length a) (length-take-le at xs h) in
-      let n : at + length a + length b ≡ at + length (a ++ b) = omega (arith, length-append a b) in
-      let u : drop (at + length a + length b) (p ++ d) ≡ drop (at + length (a ++ b)) xs = behind p d (at + length a) (length b) l ∙ drop-drop (length b) (at + length a) xs ∙ rw n in
-      rw (front p d (at + length a) l, u) (ap (λ (r : List A). r ++ drop (at + length (a ++ b)) xs) (append-assoc (take at xs) a b))
-    where
-      front : (p d : List A) (n : ℕ) → length p ≡ n → take n (p ++ d) ≡ p
-      front p d n l = rw (← l, ← add-zero (length p), take-append-add p d 0) (append-nil p)
-
-      behind : (p d : List A) (n m : ℕ) → length p ≡ n → drop (n + m) (p ++ d) ≡ drop m d
-      behind p d n m l = rw (← l) (drop-append-add p d m)
+use Rattle.leaf_ingest.proofs.Splicing.{spliced-none, spliced-one, spliced-twice}
 
 -- ---- the new entries
 

@@ -355,3 +355,72 @@ fn take_in(
         work: next,
     }
 }
+
+// ---- the call
+
+// An ingest into a work whose lent things earn no refusal, so that they aren't checked again. `page` is as the work regards it.
+fn ingest_ready(
+    work: Work,
+    rows: &mut [[usize; 5]],
+    keys: &mut [[u8; 32]],
+    store: &mut [u8],
+    page: &[u8],
+    key: &[u8; 32],
+    change: Change,
+    value: &[u8],
+    size: usize,
+) -> Ingested
+    requires { ⌜ Takes size work (listOf (now rows) (now keys)) (now store) (now page) ⌝ }
+    ensures { λ r. ⌜ Leaves (outcome.ingestOn size work (listOf (now (rows .entry)) (now (keys .entry))) (now (store .entry)) (now (page .entry)) (now (key .entry)) (changeOf change (now (value .entry))) 0) (work .used) (newEntries work (now (page .entry)) (now (key .entry)) (changeOf change (now (value .entry)))) (now (rows .entry)) (now (keys .entry)) r (now (rows .exit)) (now (keys .exit)) (now (store .exit)) ⌝ }
+{
+    let a = admit(
+        work,
+        page,
+        key,
+        change,
+        value,
+        rows.len(),
+        store.len(),
+        size,
+    );
+    if a.number != 0 {
+        return Ingested {
+            reply: Report::Refused(a.number),
+            work: work,
+        };
+    }
+    take_in(work, rows, keys, store, page, key, change, value, a.kept)
+}
+
+// Ingest: base records below the key become pending, an equal one is dropped, and a new value is pending behind them.
+pub fn ingest(
+    work: Work,
+    rows: &mut [[usize; 5]],
+    keys: &mut [[u8; 32]],
+    store: &mut [u8],
+    page: &[u8],
+    key: &[u8; 32],
+    change: Change,
+    value: &[u8],
+) -> Ingested
+    ensures { λ r. ⌜ (let o : outcome.Ingested = outcome.ingestOf 4096 work (listOf (now (rows .entry)) (now (keys .entry))) (now (store .entry)) (now (page .entry)) (now (key .entry)) (changeOf change (now (value .entry))) in (replyOf (r .reply) ≡ o .reply) × (r .work ≡ o .work) × (now (rows .exit) ≡ rowsWith (outcome.ingestNumber (o .reply)) (work .used) (newEntries work (regarded work (now (page .entry))) (now (key .entry)) (changeOf change (now (value .entry)))) (now (rows .entry))) × (now (keys .exit) ≡ keysAfter (outcome.ingestNumber (o .reply)) (o .list) (now (keys .entry))) × (now (store .exit) ≡ o .store) × (listOf (now (rows .exit)) (now (keys .exit)) ≡ o .list)) ⌝ }
+{
+    let number = lent_verdict(work, rows, keys, store, page, PAGE_SIZE);
+    if number != 0 {
+        return Ingested {
+            reply: Report::Refused(number),
+            work: work,
+        };
+    }
+    ingest_ready(
+        work,
+        rows,
+        keys,
+        store,
+        regard(work, page),
+        key,
+        change,
+        value,
+        PAGE_SIZE,
+    )
+}
