@@ -2,8 +2,8 @@
 use mathlib.Core.Path.{_≡_, refl, sym, ap, _∙_}
 use mathlib.Core.Bool.{Bool, true, false}
 use mathlib.Core.Option.{Option, none, some}
-use mathlib.Core.List.{List, _++_}
-use Prim.Native.Nat.{ℕ, _+_, _-_, _≤_}
+use mathlib.Core.List.{List}
+use Prim.Native.Nat.{ℕ, _+_, _≤_}
 use native.Mathlib.Omega.{arith}
 use native.Mathlib.Decide.{decLt}
 use lib.Dec.{eqb}
@@ -11,7 +11,7 @@ use lib.ListN.{length}
 use borrow.Author.Tests.{eq-eqb, ne-eqb, leb-true}
 use Rattle.leaf_node.specs.Limits.{PageSize}
 use Rattle.leaf_node.specs.Record.{total}
-use Rattle.leaf_node.specs.Page.{count, start, lengthAt, valuesSize}
+use Rattle.leaf_node.specs.Page.{count}
 use Rattle.leaf_node.specs.Build.{put}
 use Rattle.leaf_model.specs.Work.{Change, belowCutoff, lightChange, inserted}
 use Rattle.leaf_work.specs.declared.Work.{Work}
@@ -19,10 +19,9 @@ use Rattle.leaf_work.specs.declared.Entry.{Entry}
 use Rattle.leaf_work.specs.Lent.{cutoffOf, isOpen, regarded}
 use Rattle.leaf_work.specs.Flat.{entriesOf, listOf, keysAfter}
 use Rattle.leaf_work.specs.Sound.{letsIn}
-use Rattle.leaf_work.specs.TakingUp.{valueOf, stop, drops, reports, lowAfter, takenUp, restAfter, newChunk, newInsert, newEntries, countAfter, bytesAfter}
+use Rattle.leaf_work.specs.TakingUp.{valueOf, stop, reports, restAfter, newChunk, newInsert, newEntries, countAfter, bytesAfter}
 use Rattle.leaf_work.specs.Verdict.{lentVerdict, ingestVerdict}
 use Rattle.leaf_work.specs.Outcome as outcome
-use Rattle.leaf_work.specs.Ready.{Ready}
 use Rattle.leaf_work.proofs.Tests.{passed}
 use Rattle.leaf_work.proofs.FlatList.{length-entries, rows-and-keys-agree}
 use Rattle.leaf_work.proofs.Readiness as readiness
@@ -94,7 +93,7 @@ added-at-most-one : (change : taken.Change) → addedBy change ≤ 1
 added-at-most-one (Put flag) = omega arith
 added-at-most-one Delete = omega arith
 
-report-number : (b : Bool) (at n : ℕ) → outcome.ingestNumber (elim b [ true ↦ outcome.Reported at n | false ↦ outcome.Quiet ]) ≡ 0
+pub report-number : (b : Bool) (at n : ℕ) → outcome.ingestNumber (elim b [ true ↦ outcome.Reported at n | false ↦ outcome.Quiet ]) ≡ 0
 report-number true at n = refl
 report-number false at n = refl
 
@@ -190,7 +189,6 @@ module _ (size : ℕ) (w : Work) (rows keys : List (List ℕ)) (store page : Lis
             };
             readable = g .readable;
             as-many = as-many;
-            list-short = omega (arith, as-long, r .list-short);
             list-room = omega (arith, n, rows-passed .list-room, r .used-few, added-records change value k);
             store-room = omega (arith, b, rows-passed .store-room, r .filled-few);
             store-short = r .store-short;

@@ -4,3 +4,4 @@ pub mod Numbers
 pub mod Splicing
 pub mod Writing
 pub mod Ingests
+pub mod Repeated

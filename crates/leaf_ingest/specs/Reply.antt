@@ -1,5 +1,4 @@
 -- The change of an ingest and its reply as enums. Document 01, "A work and its turns".
-use mathlib.Core.Bool.{Bool}
 use mathlib.Core.Option.{Option, none, some}
 use mathlib.Core.List.{List}
 use Prim.Native.Nat.{ℕ}

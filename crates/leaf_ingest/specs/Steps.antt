@@ -164,7 +164,6 @@ pub record Room (w : Work) (page : List ℕ) (z : Kept) (added len : ℕ) (rows 
   pub sizes : Sizes w z added
   pub readable : z .dropped ≡ true → Readable page (z .stop)
   pub as-many : length rows ≡ length keys
-  pub list-short : length rows ≤ 4096
   pub list-room : w .used + (z .stop - w .low) + added ≤ length rows
   pub store-room : w .filled + len ≤ length store
   pub store-short : length store ≤ 65536
