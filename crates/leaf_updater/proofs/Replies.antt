@@ -2,6 +2,15 @@
 use mathlib.Core.Path.{_≡_}
 use mathlib.Core.Bool.{Bool, cond}
 use Prim.Native.Nat.{ℕ}
+use borrow.Author.Tests.{eq-eqb, ne-eqb}
+use Rattle.leaf_work.specs.Tests.{isSet}
+use Rattle.leaf_work.specs.Outcome as outcome
+use Rattle.leaf_ingest.specs.declared.Change.the-variants.{Put, Delete}
+use Rattle.leaf_ingest.specs.declared.Report.{Report}
+use Rattle.leaf_ingest.specs.declared.Report.the-variants as report
+use Rattle.leaf_work.specs.declared.Work.{Work}
+use Rattle.leaf_ingest.specs.Reply.{replyOf}
+use Rattle.leaf_updater.specs.declared.LeafIngested.{LeafIngested}
 use Rattle.leaf_node.specs.declared.Cell.{Cell}
 use Rattle.leaf_node.specs.declared.ValueReply.{ValueReply}
 use Rattle.leaf_node.specs.declared.ValueReply.the-variants as value
@@ -11,7 +20,7 @@ use Rattle.leaf_node.specs.declared.SizeReply.{SizeReply}
 use Rattle.leaf_node.specs.declared.SizeReply.the-variants as sizes
 use Rattle.leaf_updater.specs.declared.LeafValue.{LeafValue}
 use Rattle.leaf_updater.specs.declared.LeafSize.{LeafSize}
-use Rattle.leaf_updater.specs.Reply.{refusedValue, foundValue, valueOut, getOut, sizeOut}
+use Rattle.leaf_updater.specs.Reply.{changeGiven, ingestOut, refusedValue, foundValue, valueOut, getOut, sizeOut}
 
 pub value-refused : (r : ValueReply) (n : ℕ) (v : LeafValue) → r ≡ value.Refused n → v ≡ refusedValue n → v ≡ valueOut r
 value-refused r n v e q = rw (e, q)
@@ -36,3 +45,25 @@ size-given r b e = rw e
 
 pub truth-out : (n : ℕ) (a b : Bool) → a ≡ b → n ≡ cond a 1 0 → n ≡ cond b 1 0
 truth-out n a b e f = rw (← e) f
+
+pub a-deletion : (put flag : ℕ) → put ≡ 0 → Delete ≡ changeGiven put flag
+a-deletion put flag e = rw (eq-eqb put 0 e, changeGiven)
+
+pub a-new-value : (put flag : ℕ) → (put ≡ 0 → ⊥) → Put (isSet flag) ≡ changeGiven put flag
+a-new-value put flag h = rw (ne-eqb put 0 h, changeGiven)
+
+module _ (reply : Report) (work : Work) where
+  pub ingest-refused : (n : ℕ) → reply ≡ report.Refused n → record { refusal = n; reported = 0; offset = 0; len = 0; work = work } ≡ ingestOut (replyOf reply) work
+  ingest-refused n e = rw e
+
+  pub ingest-quiet : reply ≡ report.Quiet → record { refusal = 0; reported = 0; offset = 0; len = 0; work = work } ≡ ingestOut (replyOf reply) work
+  ingest-quiet e = rw e
+
+  pub ingest-reported : (offset len : ℕ) → reply ≡ report.Reported offset len
+      → record { refusal = 0; reported = 1; offset = offset; len = len; work = work } ≡ ingestOut (replyOf reply) work
+  ingest-reported offset len e = rw e
+
+-- what an ingest answers and leaves, from what the core answers and leaves
+pub ingest-out : (reply : Report) (work : Work) (due : outcome.IngestReply) (after : Work) (r : LeafIngested) → replyOf reply ≡ due → work ≡ after
+    → r ≡ ingestOut (replyOf reply) work → r ≡ ingestOut due after
+ingest-out reply work due after r e f g = rw (← e, ← f) g

@@ -1,5 +1,5 @@
 -- The structs of numbers that stand for the replies of the core: document 01's number, and the values of each case.
-use mathlib.Core.Bool.{cond}
+use mathlib.Core.Bool.{true, false, cond}
 use Prim.Native.Nat.{ℕ}
 use Rattle.leaf_node.specs.declared.Cell.{Cell}
 use Rattle.leaf_node.specs.declared.KeyReply.{KeyReply}
@@ -9,6 +9,12 @@ use Rattle.leaf_node.specs.declared.GetReply.{GetReply}
 use Rattle.leaf_node.specs.declared.GetReply.the-variants as get
 use Rattle.leaf_node.specs.declared.SizeReply.{SizeReply}
 use Rattle.leaf_node.specs.declared.SizeReply.the-variants as sizes
+use Rattle.leaf_work.specs.declared.Work.{Work}
+use Rattle.leaf_work.specs.Tests.{isZero, isSet}
+use Rattle.leaf_work.specs.Outcome.{IngestReply, IngestRefused, Quiet, Reported}
+use Rattle.leaf_ingest.specs.declared.Change.{Change}
+use Rattle.leaf_ingest.specs.declared.Change.the-variants.{Put, Delete}
+use Rattle.leaf_updater.specs.declared.LeafIngested.{LeafIngested}
 use Rattle.leaf_updater.specs.declared.LeafKey.{LeafKey}
 use Rattle.leaf_updater.specs.declared.LeafValue.{LeafValue}
 use Rattle.leaf_updater.specs.declared.LeafSize.{LeafSize}
@@ -35,3 +41,12 @@ getOut (get.At c) = foundValue c
 abbrev pub sizeOut : SizeReply → LeafSize
 sizeOut (sizes.Refused n) = record { refusal = n; bytes = 0 }
 sizeOut (sizes.Bytes b) = record { refusal = 0; bytes = b }
+
+-- a change by two numbers: put, and the new value's flag
+abbrev pub changeGiven : ℕ → ℕ → Change
+changeGiven put flag = elim (isZero put) [ true ↦ Delete | false ↦ Put (isSet flag) ]
+
+abbrev pub ingestOut : IngestReply → Work → LeafIngested
+ingestOut (IngestRefused n) work = record { refusal = n; reported = 0; offset = 0; len = 0; work = work }
+ingestOut Quiet work = record { refusal = 0; reported = 0; offset = 0; len = 0; work = work }
+ingestOut (Reported offset len) work = record { refusal = 0; reported = 1; offset = offset; len = len; work = work }

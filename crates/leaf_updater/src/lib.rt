@@ -1,6 +1,8 @@
 // The calls as a firmware programmer links them: document 01's calls under C names with the prefix `leaf_`, refusals by
 // document 01's numbers. No call has a `requires`. An enum can't cross to C, so replies are structs of numbers; `specs/`
 // says which one stands for each case.
+use leaf_ingest::Change;
+use leaf_ingest::Report;
 use leaf_node::Cell;
 use leaf_node::GetReply;
 use leaf_node::KeyReply;
@@ -17,13 +19,19 @@ ghost use Rattle.leaf_node.specs.Good.{pageVerdict};
 ghost use Rattle.leaf_node.specs.Reply.{keyReply, valueReply, getReply, sizeReply};
 ghost use Rattle.leaf_builder.specs.Rebuild.{rebuildVerdict, rebuildLeaves};
 ghost use Rattle.leaf_work.specs.Tests.{isSet};
-ghost use Rattle.leaf_work.specs.Lent.{separatorOf};
+ghost use Rattle.leaf_work.specs.Lent.{separatorOf, regarded};
 ghost use Rattle.leaf_work.specs.Flat.{listOf, rowsAfter, keysAfter};
+ghost use mathlib.Core.Option.{Option};
+ghost use Rattle.leaf_model.specs.Work as model;
+ghost use Rattle.leaf_work.specs.TakingUp.{newEntries};
+ghost use Rattle.leaf_work.specs.Outcome as outcome;
 ghost use Rattle.leaf_work.specs.Outcome.{Opened, openOf, replyNumber, Changed, nextBaseOf, removeCutoffOf, twinOf, partOf, inScopeOf};
 ghost use Rattle.leaf_open.specs.Opening.{openingOf};
+ghost use Rattle.leaf_ingest.specs.Reply.{changeOf, replyOf};
+ghost use Rattle.leaf_ingest.specs.Steps.{rowsWith};
 ghost use Rattle.leaf_pending.specs.Reply.{twinOut};
 ghost use Rattle.leaf_updater.specs.Copy.{copiedWhole};
-ghost use Rattle.leaf_updater.specs.Reply.{keyOut, refusedValue, foundValue, valueOut, getOut, sizeOut};
+ghost use Rattle.leaf_updater.specs.Reply.{changeGiven, ingestOut, keyOut, refusedValue, foundValue, valueOut, getOut, sizeOut};
 
 // ---- keys
 
@@ -235,6 +243,83 @@ pub extern "C" fn leaf_flat_open(
         keys,
         store,
     )
+}
+
+// An ingest's answer: 0 or the refusal, whether a dropped cell is reported, 1 or 0, its offset and length in the base page, and the
+// work record after the call.
+#[repr(C)]
+pub struct LeafIngested {
+    pub refusal: u8,
+    pub reported: u8,
+    pub offset: usize,
+    pub len: usize,
+    pub work: Work,
+}
+
+fn change_of(put: u8, flag: u8) -> Change
+    ensures { λ r. ⌜ r ≡ changeGiven put flag ⌝ }
+{
+    if put == 0 {
+        return Change::Delete;
+    }
+    Change::Put(flag != 0)
+}
+
+fn ingested_out(reply: Report, work: Work) -> LeafIngested
+    ensures { λ r. ⌜ r ≡ ingestOut (replyOf reply) work ⌝ }
+{
+    match reply {
+        Report::Refused(n) => LeafIngested {
+            refusal: n,
+            reported: 0,
+            offset: 0,
+            len: 0,
+            work: work,
+        },
+        Report::Quiet => LeafIngested {
+            refusal: 0,
+            reported: 0,
+            offset: 0,
+            len: 0,
+            work: work,
+        },
+        Report::Reported(offset, len) => LeafIngested {
+            refusal: 0,
+            reported: 1,
+            offset: offset,
+            len: len,
+            work: work,
+        },
+    }
+}
+
+// Takes a key into an open work: with a new value and its flag where put is set, else as a deletion, which ignores both.
+#[no_mangle]
+pub extern "C" fn leaf_flat_ingest(
+    work: Work,
+    rows: &mut [[usize; 5]],
+    keys: &mut [[u8; 32]],
+    store: &mut [u8],
+    page: &[u8],
+    key: &[u8; 32],
+    put: u8,
+    flag: u8,
+    value: &[u8],
+) -> LeafIngested
+    ensures { λ r. ⌜ (let c : Option model.Change = changeOf (changeGiven put flag) (now (value .entry)) in let o : outcome.Ingested = outcome.ingestOf 4096 work (listOf (now (rows .entry)) (now (keys .entry))) (now (store .entry)) (now (page .entry)) (now (key .entry)) c in (r ≡ ingestOut (o .reply) (o .work)) × (now (rows .exit) ≡ rowsWith (outcome.ingestNumber (o .reply)) (work .used) (newEntries work (regarded work (now (page .entry))) (now (key .entry)) c) (now (rows .entry))) × (now (keys .exit) ≡ keysAfter (outcome.ingestNumber (o .reply)) (o .list) (now (keys .entry))) × (now (store .exit) ≡ o .store) × (listOf (now (rows .exit)) (now (keys .exit)) ≡ o .list)) ⌝ }
+{
+    let after = leaf_ingest::ingest(
+        work,
+        rows,
+        keys,
+        store,
+        page,
+        key,
+        change_of(put, flag),
+        value,
+    );
+    let reply = after.reply;
+    ingested_out(reply, after.work)
 }
 
 // The next base of a work that waits, or is done and has a cutoff.
