@@ -2,6 +2,7 @@
 
 mod keys;
 mod pages;
+mod works;
 
 use std::process::ExitCode;
 use std::time::Instant;
@@ -16,7 +17,7 @@ pub fn run() -> ExitCode {
         return ExitCode::from(2);
     }
     println!("median of {ROUNDS} rounds, the two sides in turn; lent buffers are not cleared between calls");
-    if keys::run() && pages::run() {
+    if keys::run() && pages::run() && works::run() {
         ExitCode::SUCCESS
     } else {
         println!("the sides differ; times would mean nothing");
@@ -40,6 +41,13 @@ fn report(call: &str, inputs: &str, calls: usize, mut rust: impl FnMut(), mut ou
     println!(
         "{call:<12} {inputs:<38} the Rust {rust:>7.1} ns   ours {ours:>7.1} ns   ours/Rust {ratio:.2}"
     );
+}
+
+/// Times a call that has no other side.
+fn alone(call: &str, inputs: &str, calls: usize, mut ours: impl FnMut()) {
+    let times = (0..=ROUNDS).map(|_| time(calls, &mut ours));
+    let ours = median(times.skip(1).collect());
+    println!("{call:<12} {inputs:<38} ours {ours:>7.1} ns");
 }
 
 /// Nanoseconds for a call.

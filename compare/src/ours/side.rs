@@ -8,7 +8,7 @@ use crate::oracle::Key;
 use crate::plain::side::{settle, unopened, Plain};
 use crate::plain::work::State;
 use crate::vectors::answers::{Answer, Holder, Pending};
-use crate::vectors::calls::{Base, Call, Instead};
+use crate::vectors::calls::{Base, Call, Change, Instead};
 use crate::vectors::{Outcome, Side};
 
 /// A sequence: what is lent to its calls, and the page of the last accepted opening or next base.
@@ -39,6 +39,11 @@ impl Library {
                 list,
                 store,
             } => Some(self.open(base.as_ref(), *cutoff, *list, *store)),
+            Call::Ingest {
+                key,
+                change,
+                instead,
+            } => Some(self.ingest(key, change, instead)),
             Call::Next {
                 base,
                 cutoff,
@@ -55,7 +60,7 @@ impl Library {
                 Some(Ok(Answer::Key(separator)))
             }
             Call::Dump => Some(self.dump()),
-            Call::Ingest { .. } | Call::Digest { .. } => None,
+            Call::Digest { .. } => None,
             _ => Some(on_page(call)),
         }
     }
@@ -72,6 +77,16 @@ impl Library {
         if answer == Answer::Accepted {
             self.held.state = after;
             self.held.page = base.map_or(Vec::new(), |base| base.page.clone());
+        }
+        Ok(answer)
+    }
+
+    fn ingest(&mut self, key: &Key, change: &Change, instead: &Instead) -> Answered {
+        let lent = self.held.lent(instead);
+        let (reply, after) = work::ingest(&lent.state, &lent.page, key, change)?;
+        let answer = settle(reply.map(Answer::Report), &lent.state, &after)?;
+        if !matches!(answer, Answer::Refused(_)) {
+            self.held.state = after;
         }
         Ok(answer)
     }

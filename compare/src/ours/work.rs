@@ -2,13 +2,24 @@
 
 use crate::lent::{Damage, Lent};
 use crate::oracle::Key;
+use crate::plain::calls::Report;
 use crate::plain::work::{Entry, State, Work};
-use crate::vectors::calls::Base;
+use crate::vectors::calls::{Base, Change};
 
 /// The work record after a call, and 0 or the refusal.
 #[repr(C)]
 struct Updated {
     refusal: u8,
+    work: Work,
+}
+
+/// An ingest's answer: the work record after it, 0 or the refusal, and the dropped cell where it is reported.
+#[repr(C)]
+struct Ingested {
+    refusal: u8,
+    reported: u8,
+    offset: usize,
+    len: usize,
     work: Work,
 }
 
@@ -48,6 +59,22 @@ extern "C" {
         store: *mut u8,
         store_len: usize,
     ) -> Updated;
+    fn leaf_flat_ingest(
+        work: Work,
+        rows: *mut u8,
+        rows_len: usize,
+        keys: *mut u8,
+        keys_len: usize,
+        store: *mut u8,
+        store_len: usize,
+        page: *const u8,
+        page_len: usize,
+        key: *const Key,
+        put: u8,
+        flag: u8,
+        value: *const u8,
+        value_len: usize,
+    ) -> Ingested;
     fn leaf_flat_next_base(
         work: Work,
         rows: *const u8,
@@ -100,6 +127,75 @@ extern "C" {
     ) -> usize;
     fn leaf_flat_is_in_scope(work: Work, key: *const Key) -> u8;
     fn leaf_flat_separator(work: Work, out: *mut Key);
+}
+
+/// The calls as they are, with nothing around them.
+pub mod bare {
+    use super::{row, Key, State, TwinPlace, Work, ROW};
+
+    /// List and store, flat.
+    pub struct Flat {
+        pub work: Work,
+        pub rows: Vec<[usize; ROW]>,
+        pub keys: Vec<Key>,
+        pub store: Vec<u8>,
+    }
+
+    impl Flat {
+        pub fn new(state: &State) -> Self {
+            Flat {
+                work: state.work.clone(),
+                rows: state.list.iter().map(row).collect(),
+                keys: state.list.iter().map(|entry| entry.key).collect(),
+                store: state.store.clone(),
+            }
+        }
+    }
+
+    // SAFETY of all: pointers and the lengths that belong to them, and places of 32 bytes for keys.
+
+    #[inline(always)]
+    pub fn twin(flat: &Flat, page: &[u8], i: usize) -> TwinPlace {
+        unsafe {
+            super::leaf_flat_twin(
+                flat.work.clone(),
+                flat.rows.as_ptr().cast(),
+                flat.rows.len(),
+                flat.keys.as_ptr().cast(),
+                flat.keys.len(),
+                flat.store.as_ptr(),
+                flat.store.len(),
+                page.as_ptr(),
+                page.len(),
+                i,
+            )
+        }
+    }
+
+    /// An ingest of a new value; whether it was accepted.
+    #[inline(always)]
+    pub fn put(flat: &mut Flat, page: &[u8], key: &Key, value: &[u8]) -> bool {
+        let after = unsafe {
+            super::leaf_flat_ingest(
+                flat.work.clone(),
+                flat.rows.as_mut_ptr().cast(),
+                flat.rows.len(),
+                flat.keys.as_mut_ptr().cast(),
+                flat.keys.len(),
+                flat.store.as_mut_ptr(),
+                flat.store.len(),
+                page.as_ptr(),
+                page.len(),
+                key,
+                1,
+                0,
+                value.as_ptr(),
+                value.len(),
+            )
+        };
+        flat.work = after.work;
+        after.refusal == 0
+    }
 }
 
 /// List and store as the flat calls are lent them.
@@ -192,6 +288,49 @@ pub fn open(state: &State, base: Option<&Base>, cutoff: Option<Key>) -> After {
     };
     page.kept("page", base.map_or(&[], |base| &base.page))?;
     Ok((after.refusal, flat.state(after.work)?))
+}
+
+/// What an ingest reports or its refusal, and what it leaves.
+pub type AfterIngest = Result<(Result<Report, u8>, State), Damage>;
+
+pub fn ingest(state: &State, page: &[u8], key: &Key, change: &Change) -> AfterIngest {
+    let mut flat = Flat::new(state);
+    let lent = Lent::new(page);
+    // a deletion's value and flag are ignored
+    let (put, flag, value): (u8, u8, &[u8]) = match change {
+        Change::Put { value, flag } => (1, (*flag).into(), value),
+        Change::Delete => (0, 1, &[0x77; 2000]),
+    };
+    let lent_value = Lent::new(value);
+    let after = unsafe {
+        leaf_flat_ingest(
+            state.work.clone(),
+            flat.rows.ptr_mut(),
+            flat.entries,
+            flat.keys.ptr_mut(),
+            flat.entries,
+            flat.store.ptr_mut(),
+            flat.bytes,
+            lent.ptr(),
+            page.len(),
+            key,
+            put,
+            flag,
+            lent_value.ptr(),
+            value.len(),
+        )
+    };
+    lent.kept("page", page)?;
+    lent_value.kept("value", value)?;
+    let reply = match (after.refusal, after.reported) {
+        (0, 0) => Ok(None),
+        (0, _) => Ok(Some((after.offset, after.len))),
+        (number, _) => Err(number),
+    };
+    if after.reported == 0 && (after.offset, after.len) != (0, 0) {
+        return Err(Damage("a place where nothing is reported".to_string()));
+    }
+    Ok((reply, flat.state(after.work)?))
 }
 
 pub fn next_base(state: &State, base: &Base, cutoff: Option<Key>) -> After {

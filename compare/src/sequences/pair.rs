@@ -44,6 +44,7 @@ fn names(call: &Call) -> [&'static str; 2] {
 fn library_names(call: &Call) -> [&'static str; 2] {
     match call {
         Call::Open { .. } => ["opening", "opening, refused"],
+        Call::Ingest { .. } => ["ingest", "ingest, refused"],
         Call::Next { .. } => ["next base", "next base, refused"],
         Call::Uncut { .. } => ["cutoff removal", "cutoff removal, refused"],
         Call::Twin { .. } => ["twin and part", "twin and part, refused"],

@@ -32,6 +32,14 @@ fn empty_values(n: u8) -> [u8; 4096] {
     page
 }
 
+// Two flagged records with empty values.
+pub(crate) fn flagged_pair() -> [u8; 4096] {
+    let mut page = empty_values(2);
+    page[35] = 0x90;
+    page[69] = 0x90;
+    page
+}
+
 fn check_trial(label: &[u8], page: &[u8; 4096], refusal: u8) {
     say(label);
     let reply = leaf_updater::leaf_page_check(page);

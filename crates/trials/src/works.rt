@@ -2,6 +2,7 @@
 use crate::line::close;
 use crate::line::say;
 use crate::line::say_reply;
+use crate::pages::flagged_pair;
 use leaf_work::Work;
 
 fn no_work() -> Work {
@@ -62,7 +63,93 @@ fn list_of_121() {
     close(refusal == 0);
 }
 
+// An ingest of a new value into a work without a base.
+fn value_trial(label: &[u8], value: &[u8], refusal: u8) {
+    say(label);
+    let none = [0u8; 32];
+    let page = [0u8; 1];
+    let mut rows = [[0usize; 5]; 121];
+    let mut keys = [[0u8; 32]; 121];
+    let mut store = [0u8; 4096];
+    let work = leaf_updater::leaf_flat_open(
+        0,
+        &page,
+        &none,
+        0,
+        &none,
+        no_work(),
+        &mut rows,
+        &mut keys,
+        &mut store,
+    ).work;
+    let after = leaf_updater::leaf_flat_ingest(
+        work,
+        &mut rows,
+        &mut keys,
+        &mut store,
+        &page,
+        &none,
+        1,
+        0,
+        value,
+    );
+    say_reply(after.refusal);
+    close(after.refusal == refusal);
+}
+
+// A base of two flagged records, of which the one with this key is deleted.
+fn report_trial(label: &[u8], first: u8, reported: u8) {
+    say(label);
+    let none = [0u8; 32];
+    let mut key = [0u8; 32];
+    key[0] = first;
+    let page = flagged_pair();
+    let mut rows = [[0usize; 5]; 121];
+    let mut keys = [[0u8; 32]; 121];
+    let mut store = [0u8; 4096];
+    let work = leaf_updater::leaf_flat_open(
+        1,
+        &page,
+        &none,
+        0,
+        &none,
+        no_work(),
+        &mut rows,
+        &mut keys,
+        &mut store,
+    ).work;
+    let after = leaf_updater::leaf_flat_ingest(
+        work,
+        &mut rows,
+        &mut keys,
+        &mut store,
+        &page,
+        &key,
+        0,
+        0,
+        &none,
+    );
+    if after.reported == 0 {
+        say(b"nothing reported");
+    } else {
+        say(b"reported");
+    }
+    close(after.refusal == 0 && after.reported == reported);
+}
+
 pub(crate) fn run() {
     list_of_120();
     list_of_121();
+    value_trial(
+        b"  new value of 1,332                         ",
+        &[7u8; 1332],
+        0,
+    );
+    value_trial(
+        b"  new value of 1,333                         ",
+        &[7u8; 1333],
+        12,
+    );
+    report_trial(b"  flagged first base record deleted          ", 0, 0);
+    report_trial(b"  flagged second one deleted first           ", 1, 1);
 }
