@@ -23,7 +23,7 @@ use Rattle.leaf_work.specs.TakingUp.{valueOf, stop, reports, restAfter, newChun
 use Rattle.leaf_work.specs.Verdict.{lentVerdict, ingestVerdict}
 use Rattle.leaf_work.specs.Outcome as outcome
 use Rattle.leaf_work.proofs.Tests.{passed}
-use Rattle.leaf_work.proofs.FlatList.{length-entries, rows-and-keys-agree}
+use Rattle.leaf_work.proofs.FlatList.{rows-and-keys-agree}
 use Rattle.leaf_work.proofs.Readiness as readiness
 use Rattle.leaf_base.proofs.Bases.{first-refused}
 use Rattle.leaf_check.proofs.Verdicts.{the-regarded-is-good}
@@ -33,8 +33,8 @@ use Rattle.leaf_ingest.specs.declared.Kept.{Kept}
 use Rattle.leaf_ingest.specs.declared.Ingested.{Ingested}
 use Rattle.leaf_ingest.specs.declared.Report.the-variants.{Refused}
 use Rattle.leaf_ingest.specs.Reply.{changeOf, replyOf}
-use Rattle.leaf_ingest.specs.Steps.{Taken, Founded, addedBy, spliced, insertEntries, chunkEntries, entriesWith, rowsOf, keysOf, reportBy, workWith, Room, Stepped, numberFor, rowsWith, Leaves, Takes}
-use Rattle.leaf_ingest.proofs.Numbers.{range-length, range-total, added-records, pending-is, pending-bytes-are}
+use Rattle.leaf_ingest.specs.Steps.{Taken, addedBy, spliced, insertEntries, chunkEntries, entriesWith, rowsOf, keysOf, reportBy, workWith, Room, Stepped, rowsWith, Leaves, Takes}
+use Rattle.leaf_ingest.proofs.Numbers.{the-list-is-as-long, range-length, range-total, added-records, pending-is, pending-bytes-are}
 use Rattle.leaf_ingest.proofs.Splicing.{map-spliced, keys-of-entries, the-list-is-spliced}
 
 -- ---- what is required
@@ -49,33 +49,18 @@ accepted-things-take-an-ingest size w list store page v e z q p r =
       regardable = the-regarded-is-good size w page (regarded w page) 0 (sym (readiness.rows size w list store page y .base)) refl refl;
     })
 
-module _ (size : ℕ) (w : Work) (list : List Entry) (store page : List ℕ) (t : Takes size w list store page) where
-  pub what-takes-an-ingest-is-founded : Founded size w page
-  what-takes-an-ingest-is-founded =
-      let r = t .ready in
-      record {
-        sized = t .sized;
-        regardable = t .regardable;
-        low-in = r .low-in;
-        laid = r .laid;
-        rising = r .rising;
-        short = r .page-short;
-        count-few = omega (arith, r .list-room, r .list-short);
-        bytes-few = omega (arith, r .store-room, r .store-short);
-      }
-
 -- the rows that an accepted ingest passed
-pub record Passed (size : ℕ) (w : Work) (page k : List ℕ) (c : Option Change) (entries bytes : ℕ) : Type 0 where
+pub record Passed (size : ℕ) (w : Work) (list : List Entry) (store page k : List ℕ) (c : Option Change) : Type 0 where
   pub turn : isOpen w ≡ true
   pub light : lightChange size c ≡ true
   pub let-in : letsIn w k ≡ true
   pub below : belowCutoff (cutoffOf w) k ≡ true
-  pub list-room : countAfter w page k c + length (restAfter w page k) ≤ entries
-  pub store-room : bytesAfter w page k c + total (restAfter w page k) ≤ bytes
+  pub list-room : countAfter w page k c + length (restAfter w page k) ≤ length list
+  pub store-room : bytesAfter w page k c + total (restAfter w page k) ≤ length store
 
-pub passed-rows : (size : ℕ) (w : Work) (page k : List ℕ) (c : Option Change) (entries bytes : ℕ) → numberFor size w page k c entries bytes ≡ 0 → Passed size w page k c entries bytes
-unfolding numberFor
-passed-rows size w page k c entries bytes e =
+pub passed-rows : (size : ℕ) (w : Work) (list : List Entry) (store page k : List ℕ) (c : Option Change) → ingestVerdict size w list store page k c 0 ≡ 0 → Passed size w list store page k c
+unfolding ingestVerdict
+passed-rows size w list store page k c e =
     let a₁ = passed 8 (isOpen w) _ e in
     let a₂ = passed 11 (lightChange size c) _ (a₁ .1) in
     let a₃ = passed 12 (letsIn w k) _ (a₂ .1) in
@@ -83,11 +68,6 @@ passed-rows size w page k c entries bytes e =
     let a₅ = passed 14 _ _ (a₄ .1) in
     let a₆ = passed 15 _ _ (a₅ .1) in
     record { turn = a₁ .0; light = a₂ .0; let-in = a₃ .0; below = a₄ .0; list-room = leb-true _ _ (a₅ .0); store-room = leb-true _ _ (a₆ .0) }
-
-pub the-number-is-the-verdict : (size : ℕ) (w : Work) (list : List Entry) (store page k : List ℕ) (c : Option Change)
-    → ingestVerdict size w list store page k c 0 ≡ numberFor size w page k c (length list) (length store)
-unfolding ingestVerdict numberFor
-the-number-is-the-verdict size w list store page k c = refl
 
 added-at-most-one : (change : taken.Change) → addedBy change ≤ 1
 added-at-most-one (Put flag) = omega arith
@@ -135,23 +115,17 @@ module _ (size : ℕ) (w : Work) (rows keys : List (List ℕ)) (store page : Lis
   the-list : listOf rows keys ≡ entriesOf rows keys
   the-list = rows-and-keys-agree rows keys (t .ready .list-there) .1
 
-  as-long : length (listOf rows keys) ≡ length rows
-  as-long = ap length the-list ∙ length-entries rows keys as-many
-
-  module _ (k : List ℕ) (change : taken.Change) (value : List ℕ) (v : ℕ) (e : v ≡ numberFor size w page k (changeOf change value) (length rows) (length store)) where
+  module _ (k : List ℕ) (change : taken.Change) (value : List ℕ) (v : ℕ) (e : v ≡ ingestVerdict size w (listOf rows keys) store page k (changeOf change value) 0) where
     abbrev c : Option Change
     c = changeOf change value
-
-    verdict-is : ingestVerdict size w (listOf rows keys) store page k c 0 ≡ v
-    verdict-is = the-number-is-the-verdict size w (listOf rows keys) store page k c ∙ rw as-long (sym e)
 
     -- ---- refused
 
     refused : (v ≡ 0 → ⊥) → outcome.ingestOn size w (listOf rows keys) store page k c 0 ≡ record { reply = outcome.IngestRefused v; work = w; list = listOf rows keys; store = store }
     unfolding outcome.ingestOn
     refused h =
-        let f : eqb (ingestVerdict size w (listOf rows keys) store page k c 0) 0 ≡ false = rw verdict-is (ne-eqb v 0 h) in
-        rw (f, outcome.ingestOn, verdict-is)
+        let f : eqb (ingestVerdict size w (listOf rows keys) store page k c 0) 0 ≡ false = rw (← e) (ne-eqb v 0 h) in
+        rw (f, outcome.ingestOn, e)
 
     pub a-refused-ingest-leaves-all : (v ≡ 0 → ⊥)
         → Leaves (outcome.ingestOn size w (listOf rows keys) store page k c 0) (w .used) (newEntries w page k c) rows keys (record { reply = Refused v; work = w }) rows keys store
@@ -168,8 +142,8 @@ module _ (size : ℕ) (w : Work) (rows keys : List (List ℕ)) (store page : Lis
     -- ---- accepted
 
     module _ (z : v ≡ 0) (kept : Kept) (g : Taken w page k kept) where
-      rows-passed : Passed size w page k c (length rows) (length store)
-      rows-passed = passed-rows size w page k c (length rows) (length store) (sym e ∙ z)
+      rows-passed : Passed size w (listOf rows keys) store page k c
+      rows-passed = passed-rows size w (listOf rows keys) store page k c (sym e ∙ z)
 
       pub an-accepted-ingest-has-room : Room w page kept (addedBy change) (length (valueOf c)) rows keys store
       an-accepted-ingest-has-room =
@@ -189,14 +163,16 @@ module _ (size : ℕ) (w : Work) (rows keys : List (List ℕ)) (store page : Lis
             };
             readable = g .readable;
             as-many = as-many;
-            list-room = omega (arith, n, rows-passed .list-room, r .used-few, added-records change value k);
+            list-room = omega (arith, n, rows-passed .list-room, r .used-few, added-records change value k, the-list-is-as-long size w rows keys store page t);
             store-room = omega (arith, b, rows-passed .store-room, r .filled-few);
             store-short = r .store-short;
           }
 
       accepted : outcome.ingestOn size w (listOf rows keys) store page k c 0 ≡ outcome.ingestDone size w (listOf rows keys) store page k c
       unfolding outcome.ingestOn
-      accepted = rw (verdict-is, eq-eqb v 0 z, outcome.ingestOn)
+      accepted =
+          let f : eqb (ingestVerdict size w (listOf rows keys) store page k c 0) 0 ≡ true = rw (← e) (eq-eqb v 0 z) in
+          rw (f, outcome.ingestOn)
 
       pub an-accepted-ingest-leaves-its-outcome : (r : Ingested) (rows′ keys′ : List (List ℕ)) (store′ : List ℕ) → Stepped w page k kept c rows keys store r rows′ keys′ store′
           → Leaves (outcome.ingestOn size w (listOf rows keys) store page k c 0) (w .used) (newEntries w page k c) rows keys r rows′ keys′ store′

@@ -14,14 +14,19 @@ use Rattle.leaf_node.specs.Page.{count, recordsBetween, valuesSize, recordAt}
 use Rattle.leaf_node.proofs.Lengths.{length-run}
 use Rattle.leaf_model.specs.Work.{Change, belowCutoff, lightChange, inserted}
 use Rattle.leaf_work.specs.declared.Work.{Work}
+use Rattle.leaf_work.specs.declared.Entry.{Entry}
 use Rattle.leaf_work.specs.Lent.{cutoffOf}
+use Rattle.leaf_work.specs.Flat.{listOf}
 use Rattle.leaf_work.specs.Sound.{letsIn}
 use Rattle.leaf_work.specs.TakingUp.{valueOf, restAfter, countAfter, bytesAfter}
+use Rattle.leaf_work.specs.Verdict.{ingestVerdict}
+use Rattle.leaf_work.proofs.FlatList.{rows-and-keys-agree}
+use Rattle.leaf_base.proofs.Rooms.{the-list-is-as-long-as-its-rows}
 use Rattle.leaf_ingest.specs.declared.Change as taken
 use Rattle.leaf_ingest.specs.declared.Change.the-variants.{Put, Delete}
 use Rattle.leaf_ingest.specs.declared.Kept.{Kept}
 use Rattle.leaf_ingest.specs.Reply.{changeOf}
-use Rattle.leaf_ingest.specs.Steps.{Base, Taken, Founded, Sizes, roomVerdict, stepVerdict, addedBy, numberFor}
+use Rattle.leaf_ingest.specs.Steps.{Base, Taken, Sizes, roomVerdict, stepVerdict, addedBy, Takes}
 
 -- ---- row after row
 
@@ -69,23 +74,25 @@ module _ (w : Work) (z : Kept) (n a len entries bytes : ℕ) where
 
 -- ---- what is required, and the number by what the key takes up
 
-module _ (size : ℕ) (w : Work) (page : List ℕ) (f : Founded size w page) (n : ℕ) (e : n ≡ count page) where
-  pub a-founded-work-has-a-base : Base w page n
-  a-founded-work-has-a-base = rw e (record { counted = refl; low-in = f .low-in; laid = f .laid; rising = f .rising; short = f .short })
+module _ (size : ℕ) (w : Work) (list : List Entry) (store page : List ℕ) (t : Takes size w list store page) (n : ℕ) (e : n ≡ count page) where
+  pub what-takes-an-ingest-has-a-base : Base w page n
+  what-takes-an-ingest-has-a-base =
+      let r = t .ready in
+      rw e (record { counted = refl; low-in = r .low-in; laid = r .laid; rising = r .rising; short = r .page-short })
 
-  module _ (m : n ≤ 32767) (k : List ℕ) (z : Kept) (t : Taken w page k z) where
-    pub what-is-taken-up-is-small : (a : ℕ) → a ≤ 1 → Sizes w z a
-    what-is-taken-up-is-small a o =
-        record {
-          from = t .from;
-          to = t .to;
-          few = omega (arith, t .upto);
-          taken-few = t .taken-few;
-          rest-few = t .rest-few;
-          count-few = f .count-few;
-          bytes-few = f .bytes-few;
-          one = o;
-        }
+  pub what-is-taken-up-is-small : n ≤ 32767 → (k : List ℕ) (z : Kept) → Taken w page k z → (a : ℕ) → a ≤ 1 → Sizes w z a
+  what-is-taken-up-is-small m k z g a o =
+      let r = t .ready in
+      record {
+        from = g .from;
+        to = g .to;
+        few = omega (arith, g .upto);
+        taken-few = g .taken-few;
+        rest-few = g .rest-few;
+        count-few = omega (arith, r .list-room, r .list-short);
+        bytes-few = omega (arith, r .store-room, r .store-short);
+        one = o;
+      }
 
 pub what-is-taken-up-is-of-the-base : (w : Work) (page k : List ℕ) (z : Kept) (n : ℕ) → n ≡ count page → Taken w page k z → z .low ≤ n
 what-is-taken-up-is-of-the-base w page k z n e t = omega (arith, t .upto)
@@ -106,6 +113,9 @@ light-by-length : (size : ℕ) (c : Option Change) → lightChange size c ≡ le
 light-by-length size none = sym (le-leb 0 (valueLimit size) (omega arith))
 light-by-length size (some c) = refl
 
+pub the-list-is-as-long : (size : ℕ) (w : Work) (rows keys : List (List ℕ)) (store page : List ℕ) → Takes size w (listOf rows keys) store page → length (listOf rows keys) ≡ length rows
+the-list-is-as-long size w rows keys store page t = the-list-is-as-long-as-its-rows rows keys (rows-and-keys-agree rows keys (t .ready .list-there) .0)
+
 module _ (w : Work) (page k : List ℕ) (z : Kept) (t : Taken w page k z) (n : ℕ) (e : n ≡ count page) where
   pub pending-is : (c : Option Change) → countAfter w page k c + length (restAfter w page k) ≡ w .count + (z .stop - w .low) + length (inserted k c) + (n - z .low)
   pending-is c = rw (range-length, range-length, ← t .low-is, ← t .stop-is, ← e)
@@ -113,8 +123,18 @@ module _ (w : Work) (page k : List ℕ) (z : Kept) (t : Taken w page k z) (n : �
   pub pending-bytes-are : (c : Option Change) → bytesAfter w page k c + total (restAfter w page k) ≡ w .bytes + z .taken + length (valueOf c) + z .rest
   pending-bytes-are c = rw (range-total, range-total, t .taken-is, t .rest-is)
 
-  pub the-number-is-that-of-the-call : (size : ℕ) (change : taken.Change) (value : List ℕ) (a : ℕ) (x : List ℕ) (entries bytes v : ℕ) → a ≡ addedBy change
-      → x ≡ valueOf (changeOf change value) → v ≡ stepVerdict size w z n k a (length x) entries bytes → v ≡ numberFor size w page k (changeOf change value) entries bytes
-  unfolding numberFor stepVerdict
-  the-number-is-that-of-the-call size change value a x entries bytes v g h q =
-      rw (q, g, h, light-by-length size (changeOf change value), pending-is (changeOf change value), pending-bytes-are (changeOf change value), added-records change value k)
+  pub the-number-is-that-of-the-call : (size : ℕ) (rows keys : List (List ℕ)) (store : List ℕ) → Takes size w (listOf rows keys) store page → (change : taken.Change) (value : List ℕ) (a : ℕ) (x : List ℕ) (v : ℕ)
+      → a ≡ addedBy change → x ≡ valueOf (changeOf change value) → v ≡ stepVerdict size w z n k a (length x) (length rows) (length store)
+      → v ≡ ingestVerdict size w (listOf rows keys) store page k (changeOf change value) 0
+  unfolding ingestVerdict stepVerdict
+  the-number-is-that-of-the-call size rows keys store s change value a x v g h q =
+      rw (
+        q,
+        g,
+        h,
+        the-list-is-as-long size w rows keys store page s,
+        light-by-length size (changeOf change value),
+        pending-is (changeOf change value),
+        pending-bytes-are (changeOf change value),
+        added-records change value k,
+      )

@@ -30,7 +30,7 @@ use Rattle.leaf_work.proofs.Searching.{Split, the-search-splits-the-rest}
 use Rattle.leaf_ingest.specs.Steps.{spliced, rowsOf, rowsWith, Takes}
 use Rattle.leaf_ingest.proofs.Numbers.{range-length, range-total}
 use Rattle.leaf_ingest.proofs.Splicing.{spliced-length, map-spliced, Five, rows-of-entries}
-use Rattle.leaf_ingest.proofs.Ingests.{accepted-things-take-an-ingest, Passed, passed-rows, the-number-is-the-verdict, report-number}
+use Rattle.leaf_ingest.proofs.Ingests.{accepted-things-take-an-ingest, Passed, passed-rows, report-number}
 
 -- ---- entries that lie in store and passed part
 
@@ -77,8 +77,8 @@ module _ (size : ℕ) (w : Work) (list : List Entry) (store page k : List ℕ) (
   -- ---- an accepted one
 
   module _ (e : ingestVerdict size w list store page k c 0 ≡ 0) where
-    rows-passed : Passed size w page k c (length list) (length store)
-    rows-passed = passed-rows size w page k c (length list) (length store) (sym (the-number-is-the-verdict size w list store page k c) ∙ e)
+    rows-passed : Passed size w list store page k c
+    rows-passed = passed-rows size w list store page k c e
 
     list-room : w .used + length (newEntries w page k c) ≤ length list
     list-room =

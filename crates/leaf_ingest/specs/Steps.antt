@@ -9,18 +9,17 @@ use lib.Dec.{eqb, leb, ltb}
 use lib.ListN.{length, take, drop}
 use Rattle.refusal.specs.Refusal.{accepted, outOfTurn, longValue, keyTooLow, keyPastCutoff, listFull, storeFull}
 use Rattle.leaf_node.specs.Limits.{PageSize, valueLimit}
-use Rattle.leaf_node.specs.Record.{total}
 use Rattle.leaf_node.specs.Page.{count, start, lengthAt, flagAt, valuesSize}
 use Rattle.leaf_node.specs.Steps.{Laid, Rising, Readable}
 use Rattle.leaf_node.specs.Build.{put}
-use Rattle.leaf_model.specs.Work.{Change, belowCutoff, lightChange, inserted}
+use Rattle.leaf_model.specs.Work.{Change, belowCutoff, inserted}
 use Rattle.leaf_work.specs.declared.Work.{Work}
 use Rattle.leaf_work.specs.declared.Entry.{Entry}
 use Rattle.leaf_work.specs.Tests.{bit}
 use Rattle.leaf_work.specs.Lent.{insertAt, chunkOf, isOpen, cutoffOf}
 use Rattle.leaf_work.specs.Flat.{listOf, rowOf, keysAfter}
 use Rattle.leaf_work.specs.Sound.{letsIn}
-use Rattle.leaf_work.specs.TakingUp.{valueOf, stop, drops, lowAfter, restAfter, countAfter, bytesAfter}
+use Rattle.leaf_work.specs.TakingUp.{valueOf, stop, drops, lowAfter}
 use Rattle.leaf_work.specs.Verdict.{unless}
 use Rattle.leaf_work.specs.Outcome as outcome
 use Rattle.leaf_work.specs.Ready.{Ready}
@@ -40,17 +39,6 @@ pub record Base (w : Work) (page : List ℕ) (n : ℕ) : Type 0 where
   pub laid : 0 < n → Laid page n
   pub rising : 0 < n → Rising page n
   pub short : length page ≤ 32767
-
--- a work whose base can be read, and whose gauge is no larger than list and store may be
-pub record Founded (size : ℕ) (w : Work) (page : List ℕ) : Type 0 where
-  pub sized : PageSize size
-  pub regardable : Regardable size page
-  pub low-in : w .low ≤ count page
-  pub laid : 0 < count page → Laid page (count page)
-  pub rising : 0 < count page → Rising page (count page)
-  pub short : length page ≤ 32767
-  pub count-few : w .count ≤ 4096
-  pub bytes-few : w .bytes ≤ 65536
 
 -- records `low` up to `stop` are taken up, and the one at `stop` is dropped or not
 pub record KeptAt (page : List ℕ) (n low stop : ℕ) (dropped : Bool) (z : Kept) : Type 0 where
@@ -177,16 +165,6 @@ pub record Stepped (w : Work) (page k : List ℕ) (z : Kept) (c : Option Change)
   pub store-is : store′ ≡ put store (w .filled) (valueOf c)
 
 -- ---- the call
-
--- the number of an ingest whose lent things earn none, by the lengths of list and store
-unfoldable pub numberFor : ℕ → Work → List ℕ → List ℕ → Option Change → ℕ → ℕ → ℕ
-numberFor size w page k c entries bytes =
-    unless outOfTurn (isOpen w)
-    (unless longValue (lightChange size c)
-    (unless keyTooLow (letsIn w k)
-    (unless keyPastCutoff (belowCutoff (cutoffOf w) k)
-    (unless listFull (leb (countAfter w page k c + length (restAfter w page k)) entries)
-    (unless storeFull (leb (bytesAfter w page k c + total (restAfter w page k)) bytes) accepted)))))
 
 -- what an ingest leaves in the rows: those of its new entries stand behind the used ones where it is accepted, else what they held
 abbrev pub rowsWith : ℕ → ℕ → List Entry → List (List ℕ) → List (List ℕ)

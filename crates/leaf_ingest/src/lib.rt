@@ -28,9 +28,10 @@ ghost use Rattle.leaf_work.specs.Tests.{bit};
 ghost use Rattle.leaf_work.specs.Lent.{regarded};
 ghost use Rattle.leaf_work.specs.Flat.{listOf, keysAfter};
 ghost use Rattle.leaf_work.specs.TakingUp.{valueOf, newEntries};
+ghost use Rattle.leaf_work.specs.Verdict.{ingestVerdict};
 ghost use Rattle.leaf_work.specs.Outcome as outcome;
 ghost use Rattle.leaf_ingest.specs.Reply.{changeOf, replyOf};
-ghost use Rattle.leaf_ingest.specs.Steps.{Base, KeptAt, Taken, Founded, Sizes, roomVerdict, stepVerdict, addedBy, spliced, chunkEntries, insertEntries, entriesWith, rowsOf, keysOf, reportBy, workWith, Room, Stepped, numberFor, rowsWith, Leaves, Takes};
+ghost use Rattle.leaf_ingest.specs.Steps.{Base, KeptAt, Taken, Sizes, roomVerdict, stepVerdict, addedBy, spliced, chunkEntries, insertEntries, entriesWith, rowsOf, keysOf, reportBy, workWith, Room, Stepped, rowsWith, Leaves, Takes};
 
 // A new value with its flag, or a deletion. The value's bytes stand beside it; a deletion ignores them.
 pub enum Change {
@@ -193,16 +194,17 @@ fn verdict(
 // The number of an ingest whose lent things earn none, and what its key takes up.
 fn admit(
     work: Work,
+    rows: &[[usize; 5]],
+    keys: &[[u8; 32]],
+    store: &[u8],
     page: &[u8],
     key: &[u8; 32],
     change: Change,
     value: &[u8],
-    entries: usize,
-    bytes: usize,
     size: usize,
 ) -> Admitted
-    requires { ⌜ Founded size work (now page) ⌝ }
-    ensures { λ r. ⌜ (r .number ≡ numberFor size work (now (page .entry)) (now (key .entry)) (changeOf change (now (value .entry))) entries bytes) × (Taken work (now (page .entry)) (now (key .entry)) (r .kept)) ⌝ }
+    requires { ⌜ Takes size work (listOf (now rows) (now keys)) (now store) (now page) ⌝ }
+    ensures { λ r. ⌜ (r .number ≡ ingestVerdict size work (listOf (now (rows .entry)) (now (keys .entry))) (now (store .entry)) (now (page .entry)) (now (key .entry)) (changeOf change (now (value .entry))) 0) × (Taken work (now (page .entry)) (now (key .entry)) (r .kept)) ⌝ }
 {
     let n = records_in(page, size);
     let kept = keep_up_to(work, page, n, key);
@@ -214,8 +216,8 @@ fn admit(
         key,
         added(change),
         new.len(),
-        entries,
-        bytes,
+        rows.len(),
+        store.len(),
         size,
     );
     Admitted {
@@ -373,16 +375,7 @@ fn ingest_ready(
     requires { ⌜ Takes size work (listOf (now rows) (now keys)) (now store) (now page) ⌝ }
     ensures { λ r. ⌜ Leaves (outcome.ingestOn size work (listOf (now (rows .entry)) (now (keys .entry))) (now (store .entry)) (now (page .entry)) (now (key .entry)) (changeOf change (now (value .entry))) 0) (work .used) (newEntries work (now (page .entry)) (now (key .entry)) (changeOf change (now (value .entry)))) (now (rows .entry)) (now (keys .entry)) r (now (rows .exit)) (now (keys .exit)) (now (store .exit)) ⌝ }
 {
-    let a = admit(
-        work,
-        page,
-        key,
-        change,
-        value,
-        rows.len(),
-        store.len(),
-        size,
-    );
+    let a = admit(work, rows, keys, store, page, key, change, value, size);
     if a.number != 0 {
         return Ingested {
             reply: Report::Refused(a.number),
