@@ -27,7 +27,8 @@ use Rattle.leaf_work.specs.Ready.{EntryIn, Ready}
 use Rattle.leaf_work.proofs.Tests.{first-passed}
 use Rattle.leaf_work.proofs.FlatList.{rows-and-keys-agree}
 use Rattle.leaf_work.proofs.Searching.{Split, the-search-splits-the-rest}
-use Rattle.leaf_ingest.specs.Steps.{spliced, rowsOf, rowsWith, Takes}
+use Rattle.leaf_ingest.specs.declared.Ingested.{Ingested}
+use Rattle.leaf_ingest.specs.Steps.{spliced, rowsOf, rowsWith, Leaves, Takes}
 use Rattle.leaf_ingest.proofs.Numbers.{range-length, range-total}
 use Rattle.leaf_ingest.proofs.Splicing.{spliced-length, map-spliced, Five, rows-of-entries}
 use Rattle.leaf_ingest.proofs.Ingests.{accepted-things-take-an-ingest, Passed, passed-rows, report-number}
@@ -159,6 +160,11 @@ module _ (size : ℕ) (w : Work) (list : List Entry) (store page k : List ℕ) (
       go : (b : Bool) → eqb (ingestVerdict size w list store page k c 0) 0 ≡ b → Takes size (after .work) (after .list) (after .store) page
       go true e = rw (accepted e) (record { sized = t .sized; ready = ready-again (eqb-true _ _ e); regardable = t .regardable })
       go false e = rw (refused e) t
+
+  -- the same of what the code leaves: what `ingest_ready` requires holds again after it
+  pub what-the-code-leaves-takes-the-next-ingest : (used : ℕ) (new : List Entry) (rows keys : List (List ℕ)) (r : Ingested) (rows′ keys′ : List (List ℕ)) (store′ : List ℕ)
+      → Leaves (outcome.ingestOn size w list store page k c 0) used new rows keys r rows′ keys′ store′ → Takes size (r .work) (listOf rows′ keys′) store′ page
+  what-the-code-leaves-takes-the-next-ingest used new rows keys r rows′ keys′ store′ l = rw (l .work-is, l .list-is, l .store-is) an-ingest-leaves-what-the-next-one-requires
 
   -- the next one regards the same bytes of a lent page
   pub an-ingest-keeps-what-the-work-regards : (lent : List ℕ) → regarded (after .work) lent ≡ regarded w lent
