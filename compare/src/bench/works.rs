@@ -91,6 +91,20 @@ fn bench_ingest(base: &Base, keys: &[Key]) -> bool {
         rust,
         ours,
     );
+    // the twin call of the first record is little more than the check
+    alone(
+        "and a twin",
+        "the same, a twin call before each",
+        CHANGES,
+        || {
+            let mut flat = Flat::new(&opened);
+            for key in keys {
+                black_box(bare::twin(&flat, &base.page, 0));
+                bare::put(&mut flat, &base.page, key, &value);
+            }
+            black_box(&flat.store);
+        },
+    );
     accepted
 }
 

@@ -45,7 +45,7 @@ use Rattle.leaf_pass.proofs.Rises.{behind, rises, lastFrom, isSome, is-behind, 
 use Rattle.leaf_pass.proofs.Walks.{Come, insertsIn, passed-append, right-before, blanks-pass, passed-blanks, walked, walk-is-the-pass, come, to-walk}
 
 -- two tests that follow from each other are one
-one-test : (a b : Bool) → (a ≡ true → b ≡ true) → (b ≡ true → a ≡ true) → a ≡ b
+pub one-test : (a b : Bool) → (a ≡ true → b ≡ true) → (b ≡ true → a ≡ true) → a ≡ b
 one-test true true f g = refl
 one-test true false f g = sym (f refl)
 one-test false true f g = g refl

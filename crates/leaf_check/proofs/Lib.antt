@@ -3,3 +3,4 @@ pub mod Results
 pub mod Decided
 pub mod Sounds
 pub mod Verdicts
+pub mod Zeros

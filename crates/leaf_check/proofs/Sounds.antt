@@ -109,3 +109,8 @@ module _ (size : ℕ) (w : Work) (rows keys : List (List ℕ)) (p : List ℕ) (l
   pub settles : (a : Bool) → not (z .right) ≡ false → a ≡ settled size w z p (length rows) bytes → a ≡ entriesSound size w (entriesOf rows keys) p bytes
   unfolding entriesSound
   settles a r v = sym (ap of-pass whole-is ∙ and-true (z .right) _ (not-false (z .right) r) ∙ rw (length-entries rows keys l) (sym v))
+
+pub the-filled-part-is-inside : (w : Work) (u f n : ℕ) → not (leb (w .used) u && (leb (w .filled) f && leb (w .low) n)) ≡ false → w .filled ≤ f
+the-filled-part-is-inside w u f n i =
+    let t = not-false (leb (w .used) u && (leb (w .filled) f && leb (w .low) n)) i in
+    leb-true _ _ (and-left (leb (w .filled) f) _ (and-right (leb (w .used) u) (leb (w .filled) f && leb (w .low) n) t))

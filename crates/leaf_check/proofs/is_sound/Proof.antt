@@ -1,6 +1,6 @@
 -- `leaf_check::is_sound` meets its contract.
 -- Assumes nothing.
-use Rattle.leaf_check.proofs.Sounds.{wrong-record, not-within, not-clear, the-entries-decide, the-pass-sees}
+use Rattle.leaf_check.proofs.Sounds.{wrong-record, not-within, not-clear, the-entries-decide, the-pass-sees, the-filled-part-is-inside}
 use borrow.Author.Needs.{needs}
 use Rattle.leaf_check.proofs.is_sound.Statement.{statement}
 use Rattle.leaf_check.proofs.is_sound.Tie as tie
@@ -18,7 +18,7 @@ returns-2 : tie.Need-returns-2
 returns-2 c = search (not-within, needs)
 
 zeros-from-requires : tie.Need-zeros-from-requires
-zeros-from-requires c κs = search needs
+zeros-from-requires c κs = (search (the-filled-part-is-inside, needs), search needs)
 
 returns-3 : tie.Need-returns-3
 returns-3 c = search (not-clear, needs)
