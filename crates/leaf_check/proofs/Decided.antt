@@ -31,7 +31,7 @@ use Rattle.leaf_work.specs.Tests.{every, isZero, isSet, bit}
 use Rattle.leaf_work.specs.Lent.{cutoffOf, lastOf, separatorOf}
 use Rattle.leaf_work.specs.Pending.{listedOf, pendingOf}
 use Rattle.leaf_work.specs.Sound.{anInsert, someInsert, letsIn, pastAll, isOperation, isBlank, placed, knownTurn, knownFlags, lastBelow, cutoffRight, floorAbove, floorAtTurn, absentZero, roomy, risen, restAbove, gauged, bounded, overrideRight, waitingRight, doneRight, sound}
-use Rattle.leaf_work.proofs.Tests.{and-both, every-all, all-every}
+use Rattle.leaf_work.proofs.Tests.{one-test, and-both, every-all, all-every}
 use Rattle.leaf_work.proofs.Operations.{chunk-held, total-append}
 use Rattle.leaf_work.proofs.Laid.{pending-parts}
 use Rattle.leaf_work.proofs.Decoding.{Shape, insert, keep, shape, placed-head}
@@ -43,13 +43,6 @@ use Rattle.leaf_check.specs.Settled.{Regardable, boundsOf, listedRight, 
 use Rattle.leaf_check.proofs.Results.{no-page}
 use Rattle.leaf_pass.proofs.Rises.{behind, rises, lastFrom, isSome, is-behind, rises-left, rises-right, rises-append, last-append, between-rises, between-first, between-last, between-is, between-some, rise-of, at-or-above-of, rises-of, below-all, last-is-below, above-last-all, past-is}
 use Rattle.leaf_pass.proofs.Walks.{Come, insertsIn, passed-append, right-before, blanks-pass, passed-blanks, walked, walk-is-the-pass, come, to-walk}
-
--- two tests that follow from each other are one
-pub one-test : (a b : Bool) → (a ≡ true → b ≡ true) → (b ≡ true → a ≡ true) → a ≡ b
-one-test true true f g = refl
-one-test true false f g = sym (f refl)
-one-test false true f g = g refl
-one-test false false f g = refl
 
 same-suc : (a b : ℕ) → eqb (suc a) (suc b) ≡ eqb a b
 same-suc a b = one-test _ _ (λ h. eq-eqb a b (omega (arith, eqb-true (suc a) (suc b) h))) (λ h. eq-eqb (suc a) (suc b) (omega (arith, eqb-true a b h)))

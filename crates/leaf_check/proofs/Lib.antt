@@ -3,4 +3,3 @@ pub mod Results
 pub mod Decided
 pub mod Sounds
 pub mod Verdicts
-pub mod Zeros

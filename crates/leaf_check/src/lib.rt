@@ -7,17 +7,18 @@ use leaf_pass::is_behind;
 use leaf_pass::is_zero_key;
 use leaf_pass::pass_list;
 use leaf_pass::same_key;
+use leaf_pass::zeros_from;
 use leaf_work::Work;
 use refusal::ROOM_LENGTH;
 use refusal::UNSOUND;
 ghost use mathlib.Core.Path.{_≡_};
 ghost use mathlib.Core.Bool.{_&&_, _||_};
-ghost use Prim.Native.Nat.{_+_, _≤_, _<_};
-ghost use lib.ListN.{length, take, drop};
+ghost use Prim.Native.Nat.{_≤_, _<_};
+ghost use lib.ListN.{length};
 ghost use Rattle.leaf_node.specs.Limits.{PageSize};
 ghost use Rattle.leaf_node.specs.Page.{count};
 ghost use Rattle.leaf_model.specs.Work.{aboveLast, belowCutoff};
-ghost use Rattle.leaf_work.specs.Tests.{every, implies, isZero, oneOf};
+ghost use Rattle.leaf_work.specs.Tests.{implies, isZero, oneOf};
 ghost use Rattle.leaf_work.specs.Lent.{cutoffOf, lastOf, separatorOf, readsBase, regarded};
 ghost use Rattle.leaf_work.specs.Flat.{entriesOf, listOf};
 ghost use Rattle.leaf_work.specs.Sound.{letsIn, knownTurn, knownFlags, lastBelow, cutoffRight, floorAbove, floorAtTurn, absentZero, sound};
@@ -34,55 +35,6 @@ fn implied(a: bool, b: bool) -> bool
         return b;
     }
     true
-}
-
-fn wide(x: u8) -> u64
-    ensures { λ r. ⌜ (r ≡ x) × (r < 256) ⌝ }
-{
-    x as u64
-}
-
-// Whether the eight bytes from `i` on are zeros: in this form the compiler makes one load of them.
-fn eight_zeros(bytes: &[u8], i: usize) -> bool
-    requires { ⌜ i + 8 ≤ length (now bytes) ⌝ }
-    ensures { λ r. ⌜ r ≡ every isZero (take 8 (drop i (now (bytes .entry)))) ⌝ }
-{
-    let two = wide(bytes[i + 1]) * 256 + wide(bytes[i]);
-    let three = wide(bytes[i + 2]) * 65536 + two;
-    let four = wide(bytes[i + 3]) * 16777216 + three;
-    let five = wide(bytes[i + 4]) * 4294967296 + four;
-    let six = wide(bytes[i + 5]) * 1099511627776 + five;
-    let seven = wide(bytes[i + 6]) * 281474976710656 + six;
-    wide(bytes[i + 7]) * 72057594037927936 + seven == 0
-}
-
-// Whether the bytes from `from` on are zeros, byte by byte.
-fn last_zeros_from(bytes: &[u8], from: usize) -> bool
-    ensures { λ r. ⌜ r ≡ every isZero (drop from (now (bytes .entry))) ⌝ }
-{
-    let mut i = from;
-    while i < bytes.len() {
-        if bytes[i] != 0 {
-            return false;
-        }
-        i += 1;
-    }
-    true
-}
-
-// Whether the bytes from `from` on are zeros, eight at a time.
-fn zeros_from(bytes: &[u8], from: usize) -> bool
-    requires { ⌜ (from ≤ length (now bytes)) × (length (now bytes) ≤ 65536) ⌝ }
-    ensures { λ r. ⌜ r ≡ every isZero (drop from (now (bytes .entry))) ⌝ }
-{
-    let mut i = from;
-    while i + 8 <= bytes.len() {
-        if !eight_zeros(bytes, i) {
-            return false;
-        }
-        i += 8;
-    }
-    last_zeros_from(bytes, i)
 }
 
 // ---- the work record alone

@@ -3,3 +3,4 @@ pub mod Entries
 pub mod Passes
 pub mod Rises
 pub mod Walks
+pub mod Zeros

@@ -1,5 +1,5 @@
 -- Rows of the table that were passed, tests over lists, flags, and keys that are there or not. Assumes nothing.
-use mathlib.Core.Path.{_≡_, refl, ap}
+use mathlib.Core.Path.{_≡_, refl, sym, ap}
 use mathlib.Core.Bool.{Bool, true, false, not, _&&_, true≢false, false≢true}
 use mathlib.Core.Option.{Option, none, some}
 use mathlib.Core.List.{List, [], _∷_, _++_, map}
@@ -27,6 +27,13 @@ implies-if false x h = refl
 pub implied : (a b : Bool) → implies a b ≡ true → a ≡ true → b ≡ true
 implied true b h e = h
 implied false b h e = absurd (false≢true e)
+
+-- two tests that follow from each other are one
+pub one-test : (a b : Bool) → (a ≡ true → b ≡ true) → (b ≡ true → a ≡ true) → a ≡ b
+one-test true true f g = refl
+one-test true false f g = sym (f refl)
+one-test false true f g = g refl
+one-test false false f g = refl
 
 -- ---- rows
 

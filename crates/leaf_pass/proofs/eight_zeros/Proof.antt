@@ -1,9 +1,9 @@
--- `leaf_check::eight_zeros` meets its contract.
+-- `leaf_pass::eight_zeros` meets its contract.
 -- Assumes nothing.
-use Rattle.leaf_check.proofs.Zeros.{eight-by}
+use Rattle.leaf_pass.proofs.Zeros.{eight-by}
 use borrow.Author.Needs.{needs}
-use Rattle.leaf_check.proofs.eight_zeros.Statement.{statement}
-use Rattle.leaf_check.proofs.eight_zeros.Tie as tie
+use Rattle.leaf_pass.proofs.eight_zeros.Statement.{statement}
+use Rattle.leaf_pass.proofs.eight_zeros.Tie as tie
 
 add-wide : tie.Need-add-wide
 add-wide c = search needs

@@ -1,13 +1,13 @@
--- `leaf_check::zeros_from` meets its contract.
+-- `leaf_pass::zeros_from` meets its contract.
 -- Assumes nothing.
 use mathlib.Core.Path.{_≡_, refl}
 use Prim.Native.Nat.{_-_, _≤_}
 use lib.ListN.{length, drop}
 use Rattle.leaf_work.specs.Tests.{every, isZero}
-use Rattle.leaf_check.proofs.Zeros.{eight-zeros-more, one-is-not-zero, the-last-decide}
+use Rattle.leaf_pass.proofs.Zeros.{eight-zeros-more, one-is-not-zero, the-last-decide}
 use borrow.Author.Needs.{needs}
-use Rattle.leaf_check.proofs.zeros_from.Statement.{statement}
-use Rattle.leaf_check.proofs.zeros_from.Tie as tie
+use Rattle.leaf_pass.proofs.zeros_from.Statement.{statement}
+use Rattle.leaf_pass.proofs.zeros_from.Tie as tie
 
 abbrev Inv-loop : tie.InvT-loop
 Inv-loop bytes from i₀ i = (i ≤ length bytes) × (every isZero (drop from bytes) ≡ every isZero (drop i bytes))

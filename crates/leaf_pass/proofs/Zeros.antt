@@ -11,7 +11,7 @@ use borrow.Author.Tests.{eq-eqb, eqb-true, not-true, not-false}
 use Rattle.leaf_node.specs.Fits.{All, nil, cons}
 use Rattle.leaf_work.specs.Tests.{every, isZero}
 use Rattle.leaf_work.proofs.Tests.{every-all}
-use Rattle.leaf_check.proofs.Decided.{one-test}
+use Rattle.leaf_work.proofs.Tests.{one-test}
 
 -- eight bytes as one number, the first byte the lowest
 module _ (a b c d e f g h n : ℕ)

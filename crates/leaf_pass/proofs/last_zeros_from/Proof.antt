@@ -1,4 +1,4 @@
--- `leaf_check::last_zeros_from` meets its contract. The invariant: the rest from `i` on decides.
+-- `leaf_pass::last_zeros_from` meets its contract. The invariant: the rest from `i` on decides.
 -- Assumes nothing.
 use mathlib.Core.Path.{_≡_, refl}
 use Prim.Native.Nat.{_-_}
@@ -7,8 +7,8 @@ use lib.ListN.{length, getD, drop}
 use Rattle.leaf_work.specs.Tests.{every, isZero}
 use Rattle.leaf_work.proofs.Everyone.{every-more, every-fails, every-passes}
 use borrow.Author.Needs.{needs}
-use Rattle.leaf_check.proofs.last_zeros_from.Statement.{statement}
-use Rattle.leaf_check.proofs.last_zeros_from.Tie as tie
+use Rattle.leaf_pass.proofs.last_zeros_from.Statement.{statement}
+use Rattle.leaf_pass.proofs.last_zeros_from.Tie as tie
 
 abbrev Inv-loop : tie.InvT-loop
 Inv-loop bytes from i₀ i = every isZero (drop from bytes) ≡ every isZero (drop i bytes)
