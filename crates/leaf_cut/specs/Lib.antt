@@ -1,0 +1,2 @@
+-- What the steps of cutting require.
+pub mod Steps
