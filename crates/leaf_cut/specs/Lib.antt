@@ -1,2 +1,3 @@
--- What the steps of cutting require.
+-- The pending records by the lengths of their values, and what the steps of cutting require.
+pub mod Sizes
 pub mod Steps
