@@ -4,3 +4,4 @@ pub mod Pieces
 pub mod Ending
 pub mod Cursors
 pub mod Walking
+pub mod Records

@@ -1,3 +1,4 @@
--- The pending records by the lengths of their values, and what the steps of cutting require.
+-- The pending records from a cursor on, and by the lengths of their values; what the steps of cutting require.
 pub mod Sizes
+pub mod Records
 pub mod Steps
