@@ -5,3 +5,4 @@ pub mod Ending
 pub mod Cursors
 pub mod Walking
 pub mod Records
+pub mod Parts

@@ -31,8 +31,8 @@ use Rattle.leaf_cut.specs.declared.Cursor.{Cursor}
 use Rattle.leaf_cut.specs.declared.Ended.{Ended}
 use Rattle.leaf_cut.specs.declared.Taken as code
 use Rattle.leaf_cut.specs.Sizes.{sizes, cutSizes, rowSizes, listedSizes, pendingSizes, indexOf, sizesFrom}
-use Rattle.leaf_cut.specs.Records.{spanOf, firstCursor, recordsFrom}
-use Rattle.leaf_cut.specs.Steps.{Spread, Leafed}
+use Rattle.leaf_cut.specs.Records.{spanOf, firstCursor, spannedRecords, recordsFrom}
+use Rattle.leaf_cut.specs.Steps.{Spread, Leafed, Kept}
 use Rattle.leaf_cut.proofs.Ending.{ends-before, ends-behind, ends-later}
 use Rattle.leaf_cut.proofs.Cursors.{a-leaf-does-not-shrink, a-leaf-takes-no-more-than-there-is}
 
@@ -169,7 +169,7 @@ sizes-append : (rs ss : List Record) → sizes (rs ++ ss) ≡ sizes rs ++ sizes 
 sizes-append rs ss = map-append (λ (r : Record). length (r .value)) rs ss
 
 module _ (page : List ℕ) (n : ℕ) (laid : 0 < n → Laid page n) where
-  run-sizes : (m i : ℕ) → i + m ≤ n → sizes (run m i (recordAt page)) ≡ run m i (lengthAt page)
+  pub run-sizes : (m i : ℕ) → i + m ≤ n → sizes (run m i (recordAt page)) ≡ run m i (lengthAt page)
   unfolding run
   run-sizes zero i h = refl
   run-sizes (suc m) i h =
@@ -177,11 +177,11 @@ module _ (page : List ℕ) (n : ℕ) (laid : 0 < n → Laid page n) where
       let f = run-sizes m (suc i) (omega arith) in
       λ j. e j ∷ f j
 
-  chunk-sizes : (store : List ℕ) (from to : ℕ) → from ≤ to → to ≤ n → sizes (recordsHeld store page (chunkPlaces page from to)) ≡ run (to - from) from (lengthAt page)
+  pub chunk-sizes : (store : List ℕ) (from to : ℕ) → from ≤ to → to ≤ n → sizes (recordsHeld store page (chunkPlaces page from to)) ≡ run (to - from) from (lengthAt page)
   unfolding recordsBetween
   chunk-sizes store from to o h = ap sizes (chunk-held store page from to) ∙ run-sizes (to - from) from (omega arith)
 
-  entry-sizes : (store row key : List ℕ) (low filled : ℕ) → low ≤ n → filled ≤ length store → EntryIn low filled (entryOf row key)
+  pub entry-sizes : (store row key : List ℕ) (low filled : ℕ) → low ≤ n → filled ≤ length store → EntryIn low filled (entryOf row key)
       → sizes (recordsHeld store page (entryPlaces page (entryOf row key))) ≡ rowSizes page row
   unfolding entryPlaces rowSizes held
   entry-sizes store row key low filled l f h = go (eqb (getD row 0 0) 1) refl
@@ -247,39 +247,51 @@ module _ (w : Work) (rows keys : List (List ℕ)) (store page : List ℕ) (rd : 
     rest = record { counted = refl; low-in = rd .low-in; laid = rd .laid; few = few; short = rd .page-short };
   }
 
-  pub sizes-from-a-cursor : (at : Cursor) → sizes (recordsFrom w rows keys store page at) ≡ sizesFrom rows page (spanOf w page) at
-  unfolding recordsFrom sizesFrom
+  pub what-is-ready-is-kept : Kept rows keys store page (spanOf w page)
+  what-is-ready-is-kept = record {
+    as-many = agree .0;
+    used-in = rows-long;
+    used-few = omega (arith, rd .used-in, rd .list-short);
+    entries = λ i h.
+        let e : EntryIn (w .low) (w .filled) (entryOf (getD rows i []) (getD keys i [])) = rw (entry-at rows keys i (agree .0) (omega (arith, rows-long))) at (entries i h) in
+        record { insert = λ k. (e .insert k .0, omega (arith, e .insert k .1, rd .filled-in)); chunk = e .chunk };
+    rest = what-is-ready-is-spread .rest;
+    store-short = rd .store-short;
+  }
+
+  pub sizes-from-a-cursor : (at : Cursor) → sizes (recordsFrom (spanOf w page) rows keys store page at) ≡ sizesFrom rows page (spanOf w page) at
+  unfolding recordsFrom spannedRecords sizesFrom
   sizes-from-a-cursor at =
       sym (drop-sizes (indexOf rows page at) (pendingOf w (listOf rows keys) store page)) ∙ ap (drop (indexOf rows page at)) the-pending-records-by-the-lengths-of-their-values
 
   module _ (limit target : ℕ) (start : Cursor) (t : code.Taken) (l : Leafed limit target rows page (spanOf w page) start t) where
     -- the leaf is document 01's
-    pub cutting-by-chunks-is-cutting-by-records : takeUntil limit target [] (recordsFrom w rows keys store page start) ≡ takenBy (t .end) (recordsFrom w rows keys store page start)
+    pub cutting-by-chunks-is-cutting-by-records : takeUntil limit target [] (recordsFrom (spanOf w page) rows keys store page start) ≡ takenBy (t .end) (recordsFrom (spanOf w page) rows keys store page start)
     unfolding total
     cutting-by-chunks-is-cutting-by-records =
-        a-leaf-ends-by-the-lengths-of-its-values limit target [] (recordsFrom w rows keys store page start)
-        ∙ ap (λ (e : Ended). takenBy e (recordsFrom w rows keys store page start)) (ap (cutSizes limit target 0 0) (sizes-from-a-cursor start) ∙ sym (l .ended))
+        a-leaf-ends-by-the-lengths-of-its-values limit target [] (recordsFrom (spanOf w page) rows keys store page start)
+        ∙ ap (λ (e : Ended). takenBy e (recordsFrom (spanOf w page) rows keys store page start)) (ap (cutSizes limit target 0 0) (sizes-from-a-cursor start) ∙ sym (l .ended))
 
     -- what remains is what the cursor behind it stands before
-    pub the-cursor-stands-behind-the-leaf : drop (t .end .count) (recordsFrom w rows keys store page start) ≡ recordsFrom w rows keys store page (t .at)
-    unfolding recordsFrom
+    pub the-cursor-stands-behind-the-leaf : drop (t .end .count) (recordsFrom (spanOf w page) rows keys store page start) ≡ recordsFrom (spanOf w page) rows keys store page (t .at)
+    unfolding recordsFrom spannedRecords
     the-cursor-stands-behind-the-leaf =
         drop-drop (t .end .count) (indexOf rows page start) (pendingOf w (listOf rows keys) store page)
         ∙ ap (λ (i : ℕ). drop i (pendingOf w (listOf rows keys) store page)) (sym (l .further))
 
-    pub the-leaf-has-its-bytes : t .end .bytes ≡ total (take (t .end .count) (recordsFrom w rows keys store page start))
+    pub the-leaf-has-its-bytes : t .end .bytes ≡ total (take (t .end .count) (recordsFrom (spanOf w page) rows keys store page start))
     the-leaf-has-its-bytes =
-        let xs : List Record = recordsFrom w rows keys store page start in
+        let xs : List Record = recordsFrom (spanOf w page) rows keys store page start in
         let q : t .end ≡ cutSizes limit target 0 0 (sizes xs) = l .ended ∙ ap (cutSizes limit target 0 0) (sym (sizes-from-a-cursor start)) in
         ap (λ (e : Ended). e .bytes) q ∙ bytes-of-a-leaf limit target xs 0 0 (t .end .count) (sym (ap (λ (e : Ended). e .count) q) ∙ omega arith) ∙ omega arith
 
-    pub the-leaf-has-its-records : t .end .count ≤ length (recordsFrom w rows keys store page start)
+    pub the-leaf-has-its-records : t .end .count ≤ length (recordsFrom (spanOf w page) rows keys store page start)
     the-leaf-has-its-records =
-        let xs : List Record = recordsFrom w rows keys store page start in
+        let xs : List Record = recordsFrom (spanOf w page) rows keys store page start in
         let q : t .end ≡ cutSizes limit target 0 0 (sizes xs) = l .ended ∙ ap (cutSizes limit target 0 0) (sym (sizes-from-a-cursor start)) in
         omega (arith, a-leaf-takes-no-more-than-there-is limit target (sizes xs) 0 0 (t .end) q, length-map xs (λ (r : Record). length (r .value)))
 
 -- from the start on they are all that is pending
-pub all-records-are-pending : (w : Work) (rows keys : List (List ℕ)) (store page : List ℕ) → recordsFrom w rows keys store page firstCursor ≡ pendingOf w (listOf rows keys) store page
-unfolding recordsFrom indexOf listedSizes
+pub all-records-are-pending : (w : Work) (rows keys : List (List ℕ)) (store page : List ℕ) → recordsFrom (spanOf w page) rows keys store page firstCursor ≡ pendingOf w (listOf rows keys) store page
+unfolding recordsFrom spannedRecords indexOf listedSizes
 all-records-are-pending w rows keys store page = refl

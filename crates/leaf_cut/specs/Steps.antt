@@ -79,3 +79,12 @@ pub record Leafed (limit target : ℕ) (rows : List (List ℕ)) (page : List ℕ
   pub ended : t .end ≡ cutSizes limit target 0 0 (sizesFrom rows page s start)
   pub further : indexOf rows page (t .at) ≡ indexOf rows page start + t .end .count
   pub there : CursorIn rows page s (t .at)
+
+-- entries, store and base whose records can be read
+pub record Kept (rows keys : List (List ℕ)) (store page : List ℕ) (s : Span) : Type 0 where
+  pub as-many : length rows ≡ length keys
+  pub used-in : s .used ≤ length rows
+  pub used-few : s .used ≤ 65536
+  pub entries : (i : ℕ) → i < s .used → EntryIn (s .low) (length store) (entryOf (getD rows i []) (getD keys i []))
+  pub rest : Rest page (s .n) (s .low)
+  pub store-short : length store ≤ 65536
