@@ -1,2 +1,3 @@
 -- What the steps of a digest require and do.
 pub mod Steps
+pub mod Filling

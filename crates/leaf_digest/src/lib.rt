@@ -1,5 +1,7 @@
 // The digest of a work.
 // Ported from nomt/src/beatree/ops/update/leaf_updater.rs of thrumdev/nomt: `digest`, `try_build_leaves`, `build_leaf` and `prepare_merge_ops`.
+use leaf_builder::push_cell;
+use leaf_builder::push_chunk;
 use leaf_check::lent_verdict;
 use leaf_check::records_in;
 use leaf_check::regard;
@@ -11,10 +13,14 @@ use refusal::OUT_OF_TURN;
 use refusal::SHORT_AREA;
 ghost use mathlib.Core.Path.{_≡_};
 ghost use mathlib.Core.Bool.{_&&_};
-ghost use Prim.Native.Nat.{_*_, _≤_};
+ghost use mathlib.Core.List.{[], _∷_};
+ghost use Prim.Native.Nat.{_+_, _*_, _≤_, _<_};
 ghost use lib.Dec.{leb};
+ghost use lib.ListN.{length, take};
 ghost use Rattle.leaf_node.specs.Limits.{PageSize, pagesAsked};
-ghost use Rattle.leaf_node.specs.Page.{count};
+ghost use Rattle.leaf_node.specs.Record.{total};
+ghost use Rattle.leaf_node.specs.Page.{count, recordsBetween};
+ghost use Rattle.leaf_node.specs.Build.{pushed};
 ghost use Rattle.leaf_work.specs.Lent.{regarded};
 ghost use Rattle.leaf_work.specs.Flat.{listOf};
 ghost use Rattle.leaf_work.specs.Pending.{pendingOf};
@@ -22,6 +28,7 @@ ghost use Rattle.leaf_work.specs.Verdict.{lentVerdict, digestVerdict};
 ghost use Rattle.leaf_check.specs.Settled.{Regardable};
 ghost use Rattle.leaf_cut.specs.Steps.{Modest};
 ghost use Rattle.leaf_digest.specs.Steps.{bodyWith};
+ghost use Rattle.leaf_digest.specs.Filling.{clipped, insertRecord, RangeIn, InsertIn, Filling};
 
 // ---- the number
 
@@ -77,4 +84,61 @@ pub fn digest_verdict(
         return SHORT_AREA;
     }
     0
+}
+
+// ---- the page of a leaf
+
+// How many records were pushed, and where the value of the next one begins.
+struct Pushed {
+    count: usize,
+    at: usize,
+}
+
+// The end of records `from` up to `to`, of which no more than `left` are wanted.
+fn clip(from: usize, to: usize, left: usize) -> usize
+    requires { ⌜ from ≤ to ⌝ }
+    ensures { λ r. ⌜ (r ≡ clipped from to left) × (from ≤ r) × (r ≤ to) ⌝ }
+{
+    if to - from <= left {
+        return to;
+    }
+    from + left
+}
+
+// Pushes base records `from` up to `to`, no more than `left`, as records from j on, their values from byte `at` on.
+fn push_range(
+    page: &[u8],
+    from: usize,
+    to: usize,
+    left: usize,
+    d: &mut [u8],
+    j: usize,
+    at: usize,
+) -> Pushed
+    requires { ⌜ (RangeIn (now page) from to) × (Filling (length (now d)) j at (take left (recordsBetween (now page) from to))) ⌝ }
+    ensures { λ r. ⌜ (now (d .exit) ≡ pushed (now (d .entry)) j at (take left (recordsBetween (now (page .entry)) from to))) × (r .count ≡ length (take left (recordsBetween (now (page .entry)) from to))) × (r .at ≡ at + total (take left (recordsBetween (now (page .entry)) from to))) ⌝ }
+{
+    let end = clip(from, to, left);
+    let next = push_chunk(page, from, end, d, j, at);
+    Pushed {
+        count: end - from,
+        at: next,
+    }
+}
+
+// Pushes an insert as record j, its value at byte `at`. Answers where the value ends.
+fn push_insert(
+    row: [usize; 5],
+    key: &[u8; 32],
+    store: &[u8],
+    d: &mut [u8],
+    j: usize,
+    at: usize,
+) -> usize
+    requires { ⌜ (InsertIn (now store) row) × (Filling (length (now d)) j at (insertRecord (now store) row (now key) ∷ [])) ⌝ }
+    ensures { λ r. ⌜ (now (d .exit) ≡ pushed (now (d .entry)) j at (insertRecord (now (store .entry)) row (now (key .entry)) ∷ [])) × (r ≡ at + total (insertRecord (now (store .entry)) row (now (key .entry)) ∷ [])) ⌝ }
+{
+    let from = row[2];
+    let to = row[3];
+    push_cell(d, j, at, key, &store[from..to], row[1] != 0)
 }
