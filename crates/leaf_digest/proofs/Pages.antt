@@ -8,7 +8,9 @@ use native.Mathlib.Decide.{decLe}
 use lib.Dec.{eqb, leb}
 use lib.ListN.{length, getD, take, drop, length-take, length-drop, take-append-drop}
 use lib.Seq.{length-take-le, take-all}
-use borrow.Author.Tests.{le-leb, lt-leb}
+use mir.Syntax.{w64}
+use mir.Val.{Fits}
+use borrow.Author.Tests.{le-leb, lt-leb, lt-ltb, le-ltb}
 use Rattle.leaf_node.specs.Record.{Record, total}
 use Rattle.leaf_node.specs.Page.{count, pointer, start, recordAt, run, recordsBetween, valuesSize}
 use Rattle.leaf_node.specs.Steps.{Laid}
@@ -17,8 +19,13 @@ use Rattle.leaf_node.specs.Fits.{All, nil, cons, Keyed}
 use Rattle.leaf_node.proofs.Lengths.{length-run}
 use Rattle.leaf_node.proofs.Laying.{starts-between, values-size-is-a-difference, range-length}
 use Rattle.leaf_builder.specs.Steps.{CellFits, Chunk}
+use Rattle.leaf_work.specs.Pending.{held}
+use Rattle.leaf_cut.specs.declared.Span.{Span}
+use Rattle.leaf_cut.specs.declared.Cursor.{Cursor}
+use Rattle.leaf_cut.specs.Records.{entryRecords}
+use Rattle.leaf_cut.proofs.Parts.{an-insert-holds-itself, a-chunk-holds-its-records}
 use Rattle.leaf_digest.specs.declared.Pushed.{Pushed}
-use Rattle.leaf_digest.specs.Filling.{clipped, insertRecord, RangeIn, InsertIn, Filling}
+use Rattle.leaf_digest.specs.Filling.{clipped, insertRecord, partFrom, RangeIn, InsertIn, EntryThere, PartThere, Filling}
 
 -- ---- a range that is clipped
 
@@ -97,3 +104,110 @@ module _ (store row key : List ℕ) where
   pub an-insert-ends : (at next : ℕ) → next ≡ at + length (take (getD row 3 0 - getD row 2 0) (drop (getD row 2 0) store)) → next ≡ at + total (insertRecord store row key ∷ [])
   unfolding insertRecord total
   an-insert-ends at next q = omega (arith, q)
+
+-- ---- an entry
+
+module _ (store page row key : List ℕ) (skip left : ℕ) (h : EntryThere store page row skip) (wanted : 0 < left) where
+  module _ (n : getD row 0 0 ≡ 1 → ⊥) where
+    pub a-chunk-is-a-range : RangeIn page (getD row 2 0 + skip) (getD row 3 0)
+    a-chunk-is-a-range = h .chunk n
+
+    pub a-chunk-index-fits : Fits w64 (getD row 3 0) → Fits w64 (getD row 2 0 + skip)
+    a-chunk-index-fits f = record { fits = omega (arith, h .chunk n .order, f .fits) }
+
+    chunk-records : entryRecords store page row key skip ≡ recordsBetween page (getD row 2 0 + skip) (getD row 3 0)
+    chunk-records = a-chunk-holds-its-records store page row key skip n (h .chunk n .order)
+
+    pub a-chunk-has-room : (m j at : ℕ) → Filling m j at (take left (entryRecords store page row key skip)) → Filling m j at (take left (recordsBetween page (getD row 2 0 + skip) (getD row 3 0)))
+    a-chunk-has-room m j at f = rw chunk-records at f
+
+    pub a-chunk-is-pushed : (d x : List ℕ) (j at : ℕ) → x ≡ pushed d j at (take left (recordsBetween page (getD row 2 0 + skip) (getD row 3 0)))
+        → x ≡ pushed d j at (take left (entryRecords store page row key skip))
+    a-chunk-is-pushed d x j at q = rw chunk-records q
+
+    pub a-chunk-is-counted : (c : ℕ) → c ≡ length (take left (recordsBetween page (getD row 2 0 + skip) (getD row 3 0))) → c ≡ length (take left (entryRecords store page row key skip))
+    a-chunk-is-counted c q = rw chunk-records q
+
+    pub a-chunk-ends : (at x : ℕ) → x ≡ at + total (take left (recordsBetween page (getD row 2 0 + skip) (getD row 3 0))) → x ≡ at + total (take left (entryRecords store page row key skip))
+    a-chunk-ends at x q = rw chunk-records q
+
+  module _ (e : getD row 0 0 ≡ 1) where
+    pub an-insert-is-there : InsertIn store row
+    an-insert-is-there = h .insert e .1
+
+    insert-records : take left (entryRecords store page row key skip) ≡ insertRecord store row key ∷ []
+    unfolding insertRecord held
+    insert-records = rw (an-insert-holds-itself store page row key skip e (h .insert e .0)) (one-taken left wanted (insertRecord store row key))
+      where
+        one-taken : (k : ℕ) → 0 < k → (x : Record) → take k (x ∷ []) ≡ x ∷ []
+        one-taken zero l x = absurd (omega arith)
+        one-taken (suc k) l x = take-all (suc k) (x ∷ []) (omega arith)
+
+    pub an-entry-has-room : (m j at : ℕ) → Filling m j at (take left (entryRecords store page row key skip)) → Filling m j at (insertRecord store row key ∷ [])
+    an-entry-has-room m j at f = rw insert-records at f
+
+    pub an-entry-is-pushed : (d x : List ℕ) (j at : ℕ) → x ≡ pushed d j at (insertRecord store row key ∷ []) → x ≡ pushed d j at (take left (entryRecords store page row key skip))
+    an-entry-is-pushed d x j at q = rw insert-records q
+
+    pub an-entry-is-counted : 1 ≡ length (take left (entryRecords store page row key skip))
+    an-entry-is-counted = rw insert-records
+
+    pub an-entry-ends : (at x : ℕ) → x ≡ at + total (insertRecord store row key ∷ []) → x ≡ at + total (take left (entryRecords store page row key skip))
+    an-entry-ends at x q = rw insert-records q
+
+-- ---- what a cursor stands before
+
+module _ (rows keys : List (List ℕ)) (store page : List ℕ) (s : Span) (at : Cursor) (h : PartThere rows keys store page s at) where
+  module _ (l : at .entry < s .used) where
+    pub its-row-is-there : at .entry < length rows
+    its-row-is-there = h .row-in l
+
+    pub its-key-is-there : at .entry < length keys
+    its-key-is-there = h .key-in l
+
+    pub its-entry-is-there : EntryThere store page (getD rows (at .entry) []) (at .skip)
+    its-entry-is-there = h .entry l
+
+    entry-part : partFrom s rows keys store page at ≡ entryRecords store page (getD rows (at .entry) []) (getD keys (at .entry) []) (at .skip)
+    unfolding partFrom
+    entry-part = rw (lt-ltb (at .entry) (s .used) l)
+
+    module _ (left : ℕ) where
+      pub its-entry-has-room : (m j b : ℕ) → Filling m j b (take left (partFrom s rows keys store page at))
+          → Filling m j b (take left (entryRecords store page (getD rows (at .entry) []) (getD keys (at .entry) []) (at .skip)))
+      its-entry-has-room m j b f = rw entry-part at f
+
+      module _ (d x : List ℕ) (j b : ℕ) (p : Pushed) where
+        pub its-entry-is-pushed : x ≡ pushed d j b (take left (entryRecords store page (getD rows (at .entry) []) (getD keys (at .entry) []) (at .skip))) → x ≡ pushed d j b (take left (partFrom s rows keys store page at))
+        its-entry-is-pushed q = rw entry-part q
+
+        pub its-entry-is-counted : p .count ≡ length (take left (entryRecords store page (getD rows (at .entry) []) (getD keys (at .entry) []) (at .skip))) → p .count ≡ length (take left (partFrom s rows keys store page at))
+        its-entry-is-counted q = rw entry-part q
+
+        pub its-entry-ends : p .at ≡ b + total (take left (entryRecords store page (getD rows (at .entry) []) (getD keys (at .entry) []) (at .skip))) → p .at ≡ b + total (take left (partFrom s rows keys store page at))
+        its-entry-ends q = rw entry-part q
+
+  module _ (l : s .used ≤ at .entry) where
+    pub the-rest-is-there : RangeIn page (s .low + at .skip) (s .n)
+    the-rest-is-there = h .rest l
+
+    pub the-rest-begins : Fits w64 (s .n) → Fits w64 (s .low + at .skip)
+    the-rest-begins f = record { fits = omega (arith, h .rest l .order, f .fits) }
+
+    rest-part : partFrom s rows keys store page at ≡ recordsBetween page (s .low + at .skip) (s .n)
+    unfolding partFrom
+    rest-part = rw (le-ltb (at .entry) (s .used) l)
+
+    module _ (left : ℕ) where
+      pub the-rest-has-room : (m j b : ℕ) → Filling m j b (take left (partFrom s rows keys store page at)) → Filling m j b (take left (recordsBetween page (s .low + at .skip) (s .n)))
+      the-rest-has-room m j b f = rw rest-part at f
+
+      module _ (d x : List ℕ) (j b : ℕ) (p : Pushed) where
+        pub the-rest-is-pushed : x ≡ pushed d j b (take left (recordsBetween page (s .low + at .skip) (s .n))) → x ≡ pushed d j b (take left (partFrom s rows keys store page at))
+        the-rest-is-pushed q = rw rest-part q
+
+        pub the-rest-is-counted : p .count ≡ length (take left (recordsBetween page (s .low + at .skip) (s .n))) → p .count ≡ length (take left (partFrom s rows keys store page at))
+        the-rest-is-counted q = rw rest-part q
+
+        pub the-rest-ends : p .at ≡ b + total (take left (recordsBetween page (s .low + at .skip) (s .n))) → p .at ≡ b + total (take left (partFrom s rows keys store page at))
+        the-rest-ends q = rw rest-part q

@@ -5,7 +5,9 @@ use leaf_builder::push_chunk;
 use leaf_check::lent_verdict;
 use leaf_check::records_in;
 use leaf_check::regard;
+use leaf_cut::Cursor;
 use leaf_cut::Gauge;
+use leaf_cut::Span;
 use leaf_cut::has_pages;
 use leaf_cut::pending_gauge;
 use leaf_work::Work;
@@ -26,9 +28,10 @@ ghost use Rattle.leaf_work.specs.Flat.{listOf};
 ghost use Rattle.leaf_work.specs.Pending.{pendingOf};
 ghost use Rattle.leaf_work.specs.Verdict.{lentVerdict, digestVerdict};
 ghost use Rattle.leaf_check.specs.Settled.{Regardable};
+ghost use Rattle.leaf_cut.specs.Records.{entryRecords};
 ghost use Rattle.leaf_cut.specs.Steps.{Modest};
 ghost use Rattle.leaf_digest.specs.Steps.{bodyWith};
-ghost use Rattle.leaf_digest.specs.Filling.{clipped, insertRecord, RangeIn, InsertIn, Filling};
+ghost use Rattle.leaf_digest.specs.Filling.{clipped, insertRecord, partFrom, RangeIn, InsertIn, EntryThere, PartThere, Filling};
 
 // ---- the number
 
@@ -141,4 +144,51 @@ fn push_insert(
     let from = row[2];
     let to = row[3];
     push_cell(d, j, at, key, &store[from..to], row[1] != 0)
+}
+
+// Pushes an entry's records behind the first `skip`, no more than `left`.
+fn push_entry(
+    row: [usize; 5],
+    key: &[u8; 32],
+    store: &[u8],
+    page: &[u8],
+    skip: usize,
+    left: usize,
+    d: &mut [u8],
+    j: usize,
+    at: usize,
+) -> Pushed
+    requires { ⌜ (EntryThere (now store) (now page) row skip) × (0 < left) × (Filling (length (now d)) j at (take left (entryRecords (now store) (now page) row (now key) skip))) ⌝ }
+    ensures { λ r. ⌜ (now (d .exit) ≡ pushed (now (d .entry)) j at (take left (entryRecords (now (store .entry)) (now (page .entry)) row (now (key .entry)) skip))) × (r .count ≡ length (take left (entryRecords (now (store .entry)) (now (page .entry)) row (now (key .entry)) skip))) × (r .at ≡ at + total (take left (entryRecords (now (store .entry)) (now (page .entry)) row (now (key .entry)) skip))) ⌝ }
+{
+    if row[0] != 1 {
+        return push_range(page, row[2] + skip, row[3], left, d, j, at);
+    }
+    let next = push_insert(row, key, store, d, j, at);
+    Pushed { count: 1, at: next }
+}
+
+// Pushes what the cursor's entry, or the base's rest, has from it on, no more than `left`.
+fn push_part(
+    rows: &[[usize; 5]],
+    keys: &[[u8; 32]],
+    store: &[u8],
+    page: &[u8],
+    span: Span,
+    cursor: Cursor,
+    left: usize,
+    d: &mut [u8],
+    j: usize,
+    at: usize,
+) -> Pushed
+    requires { ⌜ (PartThere (now rows) (now keys) (now store) (now page) span cursor) × (0 < left) × (Filling (length (now d)) j at (take left (partFrom span (now rows) (now keys) (now store) (now page) cursor))) ⌝ }
+    ensures { λ r. ⌜ (now (d .exit) ≡ pushed (now (d .entry)) j at (take left (partFrom span (now (rows .entry)) (now (keys .entry)) (now (store .entry)) (now (page .entry)) cursor))) × (r .count ≡ length (take left (partFrom span (now (rows .entry)) (now (keys .entry)) (now (store .entry)) (now (page .entry)) cursor))) × (r .at ≡ at + total (take left (partFrom span (now (rows .entry)) (now (keys .entry)) (now (store .entry)) (now (page .entry)) cursor))) ⌝ }
+{
+    let e = cursor.entry;
+    if e < span.used {
+        let row = rows[e];
+        let key = keys[e];
+        return push_entry(row, &key, store, page, cursor.skip, left, d, j, at);
+    }
+    push_range(page, span.low + cursor.skip, span.n, left, d, j, at)
 }
