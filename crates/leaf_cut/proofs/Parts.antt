@@ -5,7 +5,7 @@ use mathlib.Core.List.{List, [], _∷_, _++_, append-nil, append-assoc, map}
 use Prim.Native.Nat.{ℕ, zero, suc, _+_, _-_, _≤_, _<_}
 use native.Mathlib.Omega.{arith}
 use native.Mathlib.Numerals.{add-one}
-use lib.ListN.{length, getD, take, drop, length-append, length-map}
+use lib.ListN.{length, getD, take, drop, length-append, length-map, length-drop}
 use lib.Seq.{drop-append-le, drop-append-add}
 use borrow.Author.Tests.{eq-eqb, ne-eqb}
 use Rattle.leaf_node.specs.Record.{Record}
@@ -20,7 +20,7 @@ use Rattle.leaf_cut.specs.declared.Span.{Span}
 use Rattle.leaf_cut.specs.declared.Cursor.{Cursor}
 use Rattle.leaf_cut.specs.Sizes.{sizes, rowSizes, listedSizes, indexOf}
 use Rattle.leaf_cut.specs.Records.{spannedRecords, recordsFrom, entryRecords}
-use Rattle.leaf_cut.specs.Steps.{CursorIn, Kept}
+use Rattle.leaf_cut.specs.Steps.{Kept, Spread}
 use Rattle.leaf_cut.proofs.Pieces.{drop-run}
 use Rattle.leaf_cut.proofs.Records.{entry-sizes}
 
@@ -39,6 +39,14 @@ module _ (store page row key : List ℕ) (skip : ℕ) where
       (drop-run skip (getD row 3 0 - getD row 2 0) (getD row 2 0) (recordAt page) (omega arith))
 
 -- ---- from a cursor on
+
+pub what-is-kept-is-spread : (rows keys : List (List ℕ)) (store page : List ℕ) (s : Span) → Kept rows keys store page s → Spread rows page s
+what-is-kept-is-spread rows keys store page s h = record {
+  used-in = h .used-in;
+  used-few = h .used-few;
+  entries = λ i l. record { insert = λ k. (h .entries i l .insert k .0, omega (arith, h .entries i l .insert k .1, h .store-short)); chunk = h .entries i l .chunk };
+  rest = h .rest;
+}
 
 module _ (rows keys : List (List ℕ)) (store page : List ℕ) (s : Span) (h : Kept rows keys store page s) where
   list-is : listOf rows keys ≡ entriesOf rows keys
@@ -121,3 +129,9 @@ module _ (rows keys : List (List ℕ)) (store page : List ℕ) (s : Span) (h : K
       let d : s .n - (s .low + at .skip) ≡ s .n - s .low - at .skip = omega arith in
       rw (all, e, c, drop-append-add (listed store page (s .used) rows keys) (recordsBetween page (s .low) (s .n)) (at .skip), d)
       (drop-run (at .skip) (s .n - s .low) (s .low) (recordAt page) (omega arith))
+
+  pub an-entry-has-records-from-its-cursor-on : at .entry < s .used → at .skip < length (rowSizes page (getD rows (at .entry) []))
+      → 0 < length (entryRecords store page (getD rows (at .entry) []) (getD keys (at .entry) []) (at .skip))
+  unfolding entryRecords
+  an-entry-has-records-from-its-cursor-on l k =
+      omega (arith, length-drop (at .skip) (recordsHeld store page (entryPlaces page (entryOf (getD rows (at .entry) []) (getD keys (at .entry) [])))), entry-count rows keys store page s h (at .entry) l)

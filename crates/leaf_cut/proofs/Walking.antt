@@ -28,7 +28,7 @@ use Rattle.leaf_cut.proofs.Cursors.{Within, a-leaf-among-the-records-of
 -- ---- the row of an entry
 
 module _ (page row : List ℕ) (s : Span) (h : EntryIn (s .low) 65536 (entryOf row [])) (r : Rest page (s .n) (s .low)) where
-  insert-sizes : getD row 0 0 ≡ 1 → rowSizes page row ≡ (getD row 3 0 - getD row 2 0) ∷ []
+  pub insert-sizes : getD row 0 0 ≡ 1 → rowSizes page row ≡ (getD row 3 0 - getD row 2 0) ∷ []
   unfolding rowSizes
   insert-sizes e = rw (eq-eqb (getD row 0 0) 1 e)
 
@@ -36,7 +36,7 @@ module _ (page row : List ℕ) (s : Span) (h : EntryIn (s .low) 65536 (entryOf r
   unfolding rowSizes
   chunk-sizes n = rw (ne-eqb (getD row 0 0) 1 n)
 
-  chunk-many : (getD row 0 0 ≡ 1 → ⊥) → length (rowSizes page row) ≡ getD row 3 0 - getD row 2 0
+  pub chunk-many : (getD row 0 0 ≡ 1 → ⊥) → length (rowSizes page row) ≡ getD row 3 0 - getD row 2 0
   chunk-many n = ap length (chunk-sizes n) ∙ length-run (getD row 3 0 - getD row 2 0) (getD row 2 0) (lengthAt page)
 
   pub an-entry-has-a-record : 0 < length (rowSizes page row)

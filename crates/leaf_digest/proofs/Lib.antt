@@ -1,3 +1,4 @@
 -- Laws on plain values, for the functions' proofs.
 pub mod Numbers
 pub mod Pages
+pub mod Leaves

@@ -8,8 +8,9 @@ use lib.ListN.{length, getD, take, drop}
 use Rattle.leaf_node.specs.Record.{Record, total}
 use Rattle.leaf_node.specs.Page.{count, pointer, recordsBetween}
 use Rattle.leaf_node.specs.Steps.{Laid}
-use Rattle.leaf_node.specs.Fits.{All, Keyed}
+use Rattle.leaf_node.specs.Fits.{All, Keyed, Fits}
 use Rattle.leaf_work.specs.Tests.{isSet}
+use Rattle.leaf_cut.specs.declared.Gauge.{Gauge}
 use Rattle.leaf_cut.specs.declared.Span.{Span}
 use Rattle.leaf_cut.specs.declared.Cursor.{Cursor}
 use Rattle.leaf_cut.specs.Records.{entryRecords}
@@ -56,3 +57,9 @@ pub record Filling (m j at : ℕ) (rs : List Record) : Type 0 where
   pub room : pointer (j + length rs) ≤ at
   pub fits : at + total rs ≤ m
   pub small : m < 32768
+
+-- a leaf of the first of some records, which a page of m bytes takes
+pub record LeafFits (m : ℕ) (leaf : Gauge) (rs : List Record) : Type 0 where
+  pub there : leaf .count ≤ length rs
+  pub bytes : leaf .bytes ≡ total (take (leaf .count) rs)
+  pub fits : Fits m (take (leaf .count) rs)

@@ -1,5 +1,6 @@
 // The digest of a work.
 // Ported from nomt/src/beatree/ops/update/leaf_updater.rs of thrumdev/nomt: `digest`, `try_build_leaves`, `build_leaf` and `prepare_merge_ops`.
+use leaf_builder::begin;
 use leaf_builder::push_cell;
 use leaf_builder::push_chunk;
 use leaf_check::lent_verdict;
@@ -22,16 +23,16 @@ ghost use lib.ListN.{length, take};
 ghost use Rattle.leaf_node.specs.Limits.{PageSize, pagesAsked};
 ghost use Rattle.leaf_node.specs.Record.{total};
 ghost use Rattle.leaf_node.specs.Page.{count, recordsBetween};
-ghost use Rattle.leaf_node.specs.Build.{pushed};
+ghost use Rattle.leaf_node.specs.Build.{pushed, build};
 ghost use Rattle.leaf_work.specs.Lent.{regarded};
 ghost use Rattle.leaf_work.specs.Flat.{listOf};
 ghost use Rattle.leaf_work.specs.Pending.{pendingOf};
 ghost use Rattle.leaf_work.specs.Verdict.{lentVerdict, digestVerdict};
 ghost use Rattle.leaf_check.specs.Settled.{Regardable};
-ghost use Rattle.leaf_cut.specs.Records.{entryRecords};
-ghost use Rattle.leaf_cut.specs.Steps.{Modest};
+ghost use Rattle.leaf_cut.specs.Records.{recordsFrom, entryRecords};
+ghost use Rattle.leaf_cut.specs.Steps.{Modest, CursorIn, Kept};
 ghost use Rattle.leaf_digest.specs.Steps.{bodyWith};
-ghost use Rattle.leaf_digest.specs.Filling.{clipped, insertRecord, partFrom, RangeIn, InsertIn, EntryThere, PartThere, Filling};
+ghost use Rattle.leaf_digest.specs.Filling.{clipped, insertRecord, partFrom, RangeIn, InsertIn, EntryThere, PartThere, Filling, LeafFits};
 
 // ---- the number
 
@@ -191,4 +192,51 @@ fn push_part(
         return push_entry(row, &key, store, page, cursor.skip, left, d, j, at);
     }
     push_range(page, span.low + cursor.skip, span.n, left, d, j, at)
+}
+
+// Pushes `count` records from a cursor on as the records of a page, their values from byte `first` on.
+fn push_records(
+    rows: &[[usize; 5]],
+    keys: &[[u8; 32]],
+    store: &[u8],
+    page: &[u8],
+    span: Span,
+    start: Cursor,
+    count: usize,
+    d: &mut [u8],
+    first: usize,
+)
+    requires { ⌜ (Kept (now rows) (now keys) (now store) (now page) span) × (CursorIn (now rows) (now page) span start) × (count ≤ length (recordsFrom span (now rows) (now keys) (now store) (now page) start)) × (Filling (length (now d)) 0 first (take count (recordsFrom span (now rows) (now keys) (now store) (now page) start))) ⌝ }
+    ensures { λ _. ⌜ now (d .exit) ≡ pushed (now (d .entry)) 0 first (take count (recordsFrom span (now (rows .entry)) (now (keys .entry)) (now (store .entry)) (now (page .entry)) start)) ⌝ }
+{
+    let mut cursor = start;
+    let mut j = 0;
+    let mut at = first;
+    while j < count {
+        let part = push_part(rows, keys, store, page, span, cursor, count - j, d, j, at);
+        j += part.count;
+        at = part.at;
+        cursor = Cursor {
+            entry: cursor.entry + 1,
+            skip: 0,
+        };
+    }
+}
+
+// The page of a leaf: `leaf.count` records from a cursor on, whose values have `leaf.bytes` bytes.
+fn build_leaf(
+    rows: &[[usize; 5]],
+    keys: &[[u8; 32]],
+    store: &[u8],
+    page: &[u8],
+    span: Span,
+    start: Cursor,
+    leaf: Gauge,
+    d: &mut [u8],
+)
+    requires { ⌜ (Kept (now rows) (now keys) (now store) (now page) span) × (CursorIn (now rows) (now page) span start) × (LeafFits (length (now d)) leaf (recordsFrom span (now rows) (now keys) (now store) (now page) start)) ⌝ }
+    ensures { λ _. ⌜ now (d .exit) ≡ build (length (now (d .entry))) (take (leaf .count) (recordsFrom span (now (rows .entry)) (now (keys .entry)) (now (store .entry)) (now (page .entry)) start)) ⌝ }
+{
+    let first = begin(d, leaf.count, leaf.bytes);
+    push_records(rows, keys, store, page, span, start, leaf.count, d, first);
 }
