@@ -11,6 +11,7 @@ use leaf_cut::Gauge;
 use leaf_cut::Span;
 use leaf_cut::has_pages;
 use leaf_cut::pending_gauge;
+use leaf_node::copy_in;
 use leaf_work::Work;
 use refusal::OUT_OF_TURN;
 use refusal::SHORT_AREA;
@@ -23,7 +24,9 @@ ghost use lib.ListN.{length, take};
 ghost use Rattle.leaf_node.specs.Limits.{PageSize, pagesAsked};
 ghost use Rattle.leaf_node.specs.Record.{total};
 ghost use Rattle.leaf_node.specs.Page.{count, recordsBetween};
-ghost use Rattle.leaf_node.specs.Build.{pushed, build};
+ghost use Rattle.leaf_node.specs.Build.{put, pushed, build};
+ghost use Rattle.leaf_node.specs.Ticket.{packedWith};
+ghost use Rattle.leaf_work.specs.Tests.{keyIf};
 ghost use Rattle.leaf_work.specs.Lent.{regarded};
 ghost use Rattle.leaf_work.specs.Flat.{listOf};
 ghost use Rattle.leaf_work.specs.Pending.{pendingOf};
@@ -239,4 +242,35 @@ fn build_leaf(
 {
     let first = begin(d, leaf.count, leaf.bytes);
     push_records(rows, keys, store, page, span, start, leaf.count, d, first);
+}
+
+// ---- tickets
+
+// A ticket's kind and separator, at byte `at`.
+fn put_separator(tickets: &mut [u8], at: usize, kind: u8, separator: &[u8; 32])
+    requires { ⌜ at + 33 ≤ length (now tickets) ⌝ }
+    ensures { λ _. ⌜ (now (tickets .exit) ≡ put (now (tickets .entry)) at (kind ∷ now (separator .entry))) × (length (now (separator .entry)) ≡ 32) ⌝ }
+{
+    tickets[at] = kind;
+    copy_in(separator, tickets, at + 1);
+}
+
+// A ticket at byte `at`. Answers where the next one begins.
+fn put_ticket(
+    tickets: &mut [u8],
+    at: usize,
+    separator: &[u8; 32],
+    cut: bool,
+    cutoff: &[u8; 32],
+) -> usize
+    requires { ⌜ at + 65 ≤ length (now tickets) ⌝ }
+    ensures { λ r. ⌜ (now (tickets .exit) ≡ put (now (tickets .entry)) at (packedWith (now (separator .entry)) (keyIf cut (now (cutoff .entry))))) × (r ≡ at + length (packedWith (now (separator .entry)) (keyIf cut (now (cutoff .entry))))) ⌝ }
+{
+    if cut {
+        put_separator(tickets, at, 1, separator);
+        copy_in(cutoff, tickets, at + 33);
+        return at + 65;
+    }
+    put_separator(tickets, at, 2, separator);
+    at + 33
 }
