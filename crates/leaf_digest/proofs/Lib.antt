@@ -3,3 +3,4 @@ pub mod Numbers
 pub mod Pages
 pub mod Leaves
 pub mod Tickets
+pub mod Keys

@@ -3,10 +3,10 @@ use mathlib.Core.Bool.{cond}
 use mathlib.Core.Path.{_≡_}
 use mathlib.Core.List.{List, []}
 use Prim.Native.Nat.{ℕ, _+_, _-_, _≤_, _<_}
-use lib.Dec.{leb, ltb}
+use lib.Dec.{eqb, leb, ltb}
 use lib.ListN.{length, getD, take, drop}
 use Rattle.leaf_node.specs.Record.{Record, total}
-use Rattle.leaf_node.specs.Page.{count, pointer, recordsBetween}
+use Rattle.leaf_node.specs.Page.{count, pointer, keyAt, recordsBetween}
 use Rattle.leaf_node.specs.Steps.{Laid}
 use Rattle.leaf_node.specs.Fits.{All, Keyed, Fits}
 use Rattle.leaf_work.specs.Tests.{isSet}
@@ -63,3 +63,19 @@ pub record LeafFits (m : ℕ) (leaf : Gauge) (rs : List Record) : Type 0 where
   pub there : leaf .count ≤ length rs
   pub bytes : leaf .bytes ≡ total (take (leaf .count) rs)
   pub fits : Fits m (take (leaf .count) rs)
+
+-- ---- keys
+
+-- the key of the first record from a cursor on
+unfoldable pub keyFrom : Span → List (List ℕ) → List (List ℕ) → List ℕ → Cursor → List ℕ
+keyFrom s rows keys page at =
+    cond (ltb (at .entry) (s .used))
+    (cond (eqb (getD (getD rows (at .entry) []) 0 0) 1) (getD keys (at .entry) []) (keyAt page (getD (getD rows (at .entry) []) 2 0 + at .skip)))
+    (keyAt page (s .low + at .skip))
+
+pub record KeyThere (rows keys : List (List ℕ)) (page : List ℕ) (s : Span) (at : Cursor) : Type 0 where
+  pub row-in : at .entry < s .used → at .entry < length rows
+  pub key-in : at .entry < s .used → at .entry < length keys
+  pub chunk : at .entry < s .used → (getD (getD rows (at .entry) []) 0 0 ≡ 1 → ⊥) → pointer (getD (getD rows (at .entry) []) 2 0 + at .skip + 1) ≤ length page
+  pub rest : s .used ≤ at .entry → pointer (s .low + at .skip + 1) ≤ length page
+  pub short : length page ≤ 32767

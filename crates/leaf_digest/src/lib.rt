@@ -12,6 +12,7 @@ use leaf_cut::Span;
 use leaf_cut::has_pages;
 use leaf_cut::pending_gauge;
 use leaf_node::copy_in;
+use leaf_node::key_at;
 use leaf_work::Work;
 use refusal::OUT_OF_TURN;
 use refusal::SHORT_AREA;
@@ -23,7 +24,7 @@ ghost use lib.Dec.{leb};
 ghost use lib.ListN.{length, take};
 ghost use Rattle.leaf_node.specs.Limits.{PageSize, pagesAsked};
 ghost use Rattle.leaf_node.specs.Record.{total};
-ghost use Rattle.leaf_node.specs.Page.{count, recordsBetween};
+ghost use Rattle.leaf_node.specs.Page.{count, pointer, keyAt, recordsBetween};
 ghost use Rattle.leaf_node.specs.Build.{put, pushed, build};
 ghost use Rattle.leaf_node.specs.Ticket.{packedWith};
 ghost use Rattle.leaf_work.specs.Tests.{keyIf};
@@ -35,7 +36,7 @@ ghost use Rattle.leaf_check.specs.Settled.{Regardable};
 ghost use Rattle.leaf_cut.specs.Records.{recordsFrom, entryRecords};
 ghost use Rattle.leaf_cut.specs.Steps.{Modest, CursorIn, Kept};
 ghost use Rattle.leaf_digest.specs.Steps.{bodyWith};
-ghost use Rattle.leaf_digest.specs.Filling.{clipped, insertRecord, partFrom, RangeIn, InsertIn, EntryThere, PartThere, Filling, LeafFits};
+ghost use Rattle.leaf_digest.specs.Filling.{clipped, insertRecord, partFrom, RangeIn, InsertIn, EntryThere, PartThere, Filling, LeafFits, keyFrom, KeyThere};
 
 // ---- the number
 
@@ -242,6 +243,40 @@ fn build_leaf(
 {
     let first = begin(d, leaf.count, leaf.bytes);
     push_records(rows, keys, store, page, span, start, leaf.count, d, first);
+}
+
+// ---- keys
+
+// Key i of a page, copied.
+fn base_key(page: &[u8], i: usize) -> [u8; 32]
+    requires { ⌜ pointer (i + 1) ≤ length (now page) ⌝ }
+    ensures { λ r. ⌜ r ≡ keyAt (now (page .entry)) i ⌝ }
+{
+    let mut key = [0u8; 32];
+    copy_in(key_at(page, i), &mut key, 0);
+    key
+}
+
+// The key of the first record from a cursor on.
+fn op_first_key(
+    rows: &[[usize; 5]],
+    keys: &[[u8; 32]],
+    page: &[u8],
+    span: Span,
+    cursor: Cursor,
+) -> [u8; 32]
+    requires { ⌜ KeyThere (now rows) (now keys) (now page) span cursor ⌝ }
+    ensures { λ r. ⌜ r ≡ keyFrom span (now (rows .entry)) (now (keys .entry)) (now (page .entry)) cursor ⌝ }
+{
+    let e = cursor.entry;
+    if span.used <= e {
+        return base_key(page, span.low + cursor.skip);
+    }
+    let row = rows[e];
+    if row[0] != 1 {
+        return base_key(page, row[2] + cursor.skip);
+    }
+    keys[e]
 }
 
 // ---- tickets
