@@ -1,6 +1,2 @@
 -- Laws on plain values, for the functions' proofs.
 pub mod Numbers
-pub mod Pages
-pub mod Leaves
-pub mod Tickets
-pub mod Keys

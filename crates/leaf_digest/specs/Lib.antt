@@ -1,3 +1,2 @@
 -- What the steps of a digest require and do.
 pub mod Steps
-pub mod Filling

@@ -1,9 +1,9 @@
--- `leaf_digest::base_key` meets its contract.
+-- `leaf_write::base_key` meets its contract.
 -- Assumes nothing.
-use Rattle.leaf_digest.proofs.Keys.{a-key-is-copied}
+use Rattle.leaf_write.proofs.Keys.{a-key-is-copied}
 use borrow.Author.Needs.{needs}
-use Rattle.leaf_digest.proofs.base_key.Statement.{statement}
-use Rattle.leaf_digest.proofs.base_key.Tie as tie
+use Rattle.leaf_write.proofs.base_key.Statement.{statement}
+use Rattle.leaf_write.proofs.base_key.Tie as tie
 
 key-at-requires : tie.Need-key-at-requires
 key-at-requires c κs = search needs

@@ -1,9 +1,9 @@
--- `leaf_digest::op_first_key` meets its contract.
+-- `leaf_write::op_first_key` meets its contract.
 -- Assumes nothing.
-use Rattle.leaf_digest.proofs.Keys.{the-rests-key-is-there, the-rests-index-fits, the-rests-key-is-first, the-row-of-the-key-is-there, the-key-is-there, the-chunks-key-is-there, the-chunks-index-fits, the-chunks-key-is-first, the-inserts-key-is-first}
+use Rattle.leaf_write.proofs.Keys.{the-rests-key-is-there, the-rests-index-fits, the-rests-key-is-first, the-row-of-the-key-is-there, the-key-is-there, the-chunks-key-is-there, the-chunks-index-fits, the-chunks-key-is-first, the-inserts-key-is-first}
 use borrow.Author.Needs.{needs}
-use Rattle.leaf_digest.proofs.op_first_key.Statement.{statement}
-use Rattle.leaf_digest.proofs.op_first_key.Tie as tie
+use Rattle.leaf_write.proofs.op_first_key.Statement.{statement}
+use Rattle.leaf_write.proofs.op_first_key.Tie as tie
 
 add-base-key : tie.Need-add-base-key
 add-base-key c = search (the-rests-index-fits, needs)

@@ -1,9 +1,9 @@
--- `leaf_digest::clip` meets its contract.
+-- `leaf_write::clip` meets its contract.
 -- Assumes nothing.
-use Rattle.leaf_digest.proofs.Pages.{all-are-wanted, the-first-are-wanted}
+use Rattle.leaf_write.proofs.Pages.{all-are-wanted, the-first-are-wanted}
 use borrow.Author.Needs.{needs}
-use Rattle.leaf_digest.proofs.clip.Statement.{statement}
-use Rattle.leaf_digest.proofs.clip.Tie as tie
+use Rattle.leaf_write.proofs.clip.Statement.{statement}
+use Rattle.leaf_write.proofs.clip.Tie as tie
 
 sub-if1 : tie.Need-sub-if1
 sub-if1 c = search needs

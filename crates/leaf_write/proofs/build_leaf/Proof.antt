@@ -1,9 +1,9 @@
--- `leaf_digest::build_leaf` meets its contract.
+-- `leaf_write::build_leaf` meets its contract.
 -- Assumes nothing.
-use Rattle.leaf_digest.proofs.Leaves.{a-leaf-begins, a-leaf-is-there, a-leaf-has-room, a-leaf-is-built}
+use Rattle.leaf_write.proofs.Leaves.{a-leaf-begins, a-leaf-is-there, a-leaf-has-room, a-leaf-is-built}
 use borrow.Author.Needs.{needs}
-use Rattle.leaf_digest.proofs.build_leaf.Statement.{statement}
-use Rattle.leaf_digest.proofs.build_leaf.Tie as tie
+use Rattle.leaf_write.proofs.build_leaf.Statement.{statement}
+use Rattle.leaf_write.proofs.build_leaf.Tie as tie
 
 begin-requires : tie.Need-begin-requires
 begin-requires c κs = search (a-leaf-begins, needs)

@@ -1,9 +1,9 @@
--- `leaf_digest::put_ticket` meets its contract.
+-- `leaf_write::put_ticket` meets its contract.
 -- Assumes nothing.
-use Rattle.leaf_digest.proofs.Tickets.{a-ticket-with-a-cutoff, a-ticket-with-a-cutoff-ends, a-ticket-without-a-cutoff, a-ticket-without-a-cutoff-ends}
+use Rattle.leaf_write.proofs.Tickets.{a-ticket-with-a-cutoff, a-ticket-with-a-cutoff-ends, a-ticket-without-a-cutoff, a-ticket-without-a-cutoff-ends}
 use borrow.Author.Needs.{needs}
-use Rattle.leaf_digest.proofs.put_ticket.Statement.{statement}
-use Rattle.leaf_digest.proofs.put_ticket.Tie as tie
+use Rattle.leaf_write.proofs.put_ticket.Statement.{statement}
+use Rattle.leaf_write.proofs.put_ticket.Tie as tie
 
 put-separator-requires : tie.Need-put-separator-requires
 put-separator-requires c κs = search needs

@@ -1,9 +1,9 @@
--- `leaf_digest::push_range` meets its contract.
+-- `leaf_write::push_range` meets its contract.
 -- Assumes nothing.
-use Rattle.leaf_digest.proofs.Pages.{a-range-has-room, a-range-is-pushed, a-range-is-counted, a-range-ends}
+use Rattle.leaf_write.proofs.Pages.{a-range-has-room, a-range-is-pushed, a-range-is-counted, a-range-ends}
 use borrow.Author.Needs.{needs}
-use Rattle.leaf_digest.proofs.push_range.Statement.{statement}
-use Rattle.leaf_digest.proofs.push_range.Tie as tie
+use Rattle.leaf_write.proofs.push_range.Statement.{statement}
+use Rattle.leaf_write.proofs.push_range.Tie as tie
 
 clip-requires : tie.Need-clip-requires
 clip-requires c κs = search needs

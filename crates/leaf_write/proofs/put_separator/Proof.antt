@@ -1,9 +1,9 @@
--- `leaf_digest::put_separator` meets its contract.
+-- `leaf_write::put_separator` meets its contract.
 -- Assumes nothing.
-use Rattle.leaf_digest.proofs.Tickets.{the-separator-has-room, kind-and-separator, the-length-is-kept}
+use Rattle.leaf_write.proofs.Tickets.{the-separator-has-room, kind-and-separator, the-length-is-kept}
 use borrow.Author.Needs.{needs}
-use Rattle.leaf_digest.proofs.put_separator.Statement.{statement}
-use Rattle.leaf_digest.proofs.put_separator.Tie as tie
+use Rattle.leaf_write.proofs.put_separator.Statement.{statement}
+use Rattle.leaf_write.proofs.put_separator.Tie as tie
 
 slice-write-tickets : tie.Need-slice-write-tickets
 slice-write-tickets c = search needs

@@ -1,9 +1,9 @@
--- `leaf_digest::push_part` meets its contract.
+-- `leaf_write::push_part` meets its contract.
 -- Assumes nothing.
-use Rattle.leaf_digest.proofs.Pages.{its-row-is-there, its-key-is-there, its-entry-is-there, its-entry-has-room, its-entry-is-pushed, its-entry-is-counted, its-entry-ends, the-rest-is-there, the-rest-begins, the-rest-has-room, the-rest-is-pushed, the-rest-is-counted, the-rest-ends}
+use Rattle.leaf_write.proofs.Pages.{its-row-is-there, its-key-is-there, its-entry-is-there, its-entry-has-room, its-entry-is-pushed, its-entry-is-counted, its-entry-ends, the-rest-is-there, the-rest-begins, the-rest-has-room, the-rest-is-pushed, the-rest-is-counted, the-rest-ends}
 use borrow.Author.Needs.{needs}
-use Rattle.leaf_digest.proofs.push_part.Statement.{statement}
-use Rattle.leaf_digest.proofs.push_part.Tie as tie
+use Rattle.leaf_write.proofs.push_part.Statement.{statement}
+use Rattle.leaf_write.proofs.push_part.Tie as tie
 
 mul-row : tie.Need-mul-row
 mul-row c = search (its-row-is-there, needs)

@@ -1,9 +1,9 @@
--- `leaf_digest::push_entry` meets its contract.
+-- `leaf_write::push_entry` meets its contract.
 -- Assumes nothing.
-use Rattle.leaf_digest.proofs.Pages.{a-chunk-is-a-range, a-chunk-index-fits, a-chunk-has-room, a-chunk-is-pushed, a-chunk-is-counted, a-chunk-ends, an-insert-is-there, an-entry-has-room, an-entry-is-pushed, an-entry-is-counted, an-entry-ends}
+use Rattle.leaf_write.proofs.Pages.{a-chunk-is-a-range, a-chunk-index-fits, a-chunk-has-room, a-chunk-is-pushed, a-chunk-is-counted, a-chunk-ends, an-insert-is-there, an-entry-has-room, an-entry-is-pushed, an-entry-is-counted, an-entry-ends}
 use borrow.Author.Needs.{needs}
-use Rattle.leaf_digest.proofs.push_entry.Statement.{statement}
-use Rattle.leaf_digest.proofs.push_entry.Tie as tie
+use Rattle.leaf_write.proofs.push_entry.Statement.{statement}
+use Rattle.leaf_write.proofs.push_entry.Tie as tie
 
 array-read-if1 : tie.Need-array-read-if1
 array-read-if1 c = search needs

@@ -1,10 +1,10 @@
--- `leaf_digest::push_records` meets its contract. The invariant: j records are in the page, and what is left of the leaf follows the cursor.
+-- `leaf_write::push_records` meets its contract. The invariant: j records are in the page, and what is left of the leaf follows the cursor.
 -- Assumes nothing.
 use Prim.Native.Nat.{_-_}
-use Rattle.leaf_digest.proofs.Leaves.{Filled, an-empty-page-is-filled, the-part-can-be-read, the-part-has-room, few-are-pushed, the-entries-are-few, some-are-pushed, a-part-is-pushed, a-filled-page-has-all}
+use Rattle.leaf_write.proofs.Leaves.{Filled, an-empty-page-is-filled, the-part-can-be-read, the-part-has-room, few-are-pushed, the-entries-are-few, some-are-pushed, a-part-is-pushed, a-filled-page-has-all}
 use borrow.Author.Needs.{needs}
-use Rattle.leaf_digest.proofs.push_records.Statement.{statement}
-use Rattle.leaf_digest.proofs.push_records.Tie as tie
+use Rattle.leaf_write.proofs.push_records.Statement.{statement}
+use Rattle.leaf_write.proofs.push_records.Tie as tie
 
 abbrev Inv-loop : tie.InvT-loop
 Inv-loop rows keys store page span count d₀ first cursor₀ j₀ at₀ d cursor j at =

@@ -24,8 +24,8 @@ use Rattle.leaf_cut.specs.declared.Span.{Span}
 use Rattle.leaf_cut.specs.declared.Cursor.{Cursor}
 use Rattle.leaf_cut.specs.Records.{entryRecords}
 use Rattle.leaf_cut.proofs.Parts.{an-insert-holds-itself, a-chunk-holds-its-records}
-use Rattle.leaf_digest.specs.declared.Pushed.{Pushed}
-use Rattle.leaf_digest.specs.Filling.{clipped, insertRecord, partFrom, RangeIn, InsertIn, EntryThere, PartThere, Filling}
+use Rattle.leaf_write.specs.declared.Pushed.{Pushed}
+use Rattle.leaf_write.specs.Filling.{clipped, insertRecord, partFrom, RangeIn, InsertIn, EntryThere, PartThere, Filling}
 
 -- ---- a range that is clipped
 

@@ -34,8 +34,8 @@ use Rattle.leaf_cut.specs.Records.{recordsFrom, entryRecords}
 use Rattle.leaf_cut.specs.Steps.{Spread, CursorIn, Kept}
 use Rattle.leaf_cut.proofs.Walking.{insert-sizes, chunk-many, an-entry-has-a-record}
 use Rattle.leaf_cut.proofs.Parts.{what-is-kept-is-spread, the-records-from-an-entry-on, the-records-from-the-rest-on, an-entry-has-records-from-its-cursor-on}
-use Rattle.leaf_digest.specs.declared.Pushed.{Pushed}
-use Rattle.leaf_digest.specs.Filling.{partFrom, RangeIn, InsertIn, EntryThere, PartThere, Filling, LeafFits}
+use Rattle.leaf_write.specs.declared.Pushed.{Pushed}
+use Rattle.leaf_write.specs.Filling.{partFrom, RangeIn, InsertIn, EntryThere, PartThere, Filling, LeafFits}
 
 -- ---- records pushed in two goes
 

@@ -12,7 +12,7 @@ use Rattle.leaf_node.specs.Build.{put}
 use Rattle.leaf_node.proofs.Copying.{put-all}
 use Rattle.leaf_cut.specs.declared.Span.{Span}
 use Rattle.leaf_cut.specs.declared.Cursor.{Cursor}
-use Rattle.leaf_digest.specs.Filling.{keyFrom, KeyThere}
+use Rattle.leaf_write.specs.Filling.{keyFrom, KeyThere}
 
 pub a-key-is-copied : (p : List ℕ) (i : ℕ) (x k : List ℕ) → x ≡ keyAt p i → length x ≡ 32 → k ≡ put (replicate 32 0) 0 x → k ≡ keyAt p i
 a-key-is-copied p i x k e l q = q ∙ put-all (replicate 32 0) x l ∙ e

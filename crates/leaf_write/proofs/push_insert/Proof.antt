@@ -1,9 +1,9 @@
--- `leaf_digest::push_insert` meets its contract.
+-- `leaf_write::push_insert` meets its contract.
 -- Assumes nothing.
-use Rattle.leaf_digest.proofs.Pages.{an-insert-has-room, an-insert-is-pushed, an-insert-ends}
+use Rattle.leaf_write.proofs.Pages.{an-insert-has-room, an-insert-is-pushed, an-insert-ends}
 use borrow.Author.Needs.{needs}
-use Rattle.leaf_digest.proofs.push_insert.Statement.{statement}
-use Rattle.leaf_digest.proofs.push_insert.Tie as tie
+use Rattle.leaf_write.proofs.push_insert.Statement.{statement}
+use Rattle.leaf_write.proofs.push_insert.Tie as tie
 
 array-read-from : tie.Need-array-read-from
 array-read-from c = search needs

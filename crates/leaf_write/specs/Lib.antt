@@ -1,0 +1,2 @@
+-- What is written of a leaf, and what that requires.
+pub mod Filling
