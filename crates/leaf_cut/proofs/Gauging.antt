@@ -1,6 +1,7 @@
 -- How much is pending, and how many pages that takes. Assumes nothing.
 use mathlib.Core.Path.{_≡_, refl, sym, ap, _∙_}
 use mathlib.Core.Bool.{_&&_}
+use mathlib.Core.Option.{none, some}
 use mathlib.Core.List.{List}
 use Prim.Native.Nat.{ℕ, _+_, _-_, _*_, _/_, _≤_, _<_}
 use native.Mathlib.Omega.{arith}
@@ -8,10 +9,12 @@ use native.Mathlib.Nat.{div-le-self, mul-le-mul}
 use lib.Dec.{leb}
 use mir.Syntax.{w64}
 use mir.Val.{Fits}
-use Rattle.leaf_node.specs.Limits.{PageSize, bodyLimit, mergeBelow, pagesAsked}
+use borrow.Author.Tests.{lt-ltb, le-ltb}
+use Rattle.leaf_node.specs.Limits.{PageSize, bodyLimit, mergeBelow, bulkAbove, bulkTarget, pagesAsked}
 use Rattle.leaf_node.specs.Page.{count, run, recordAt, recordsBetween, valuesSize}
 use Rattle.leaf_node.specs.Record.{total}
 use Rattle.leaf_node.specs.Steps.{Laid}
+use Rattle.leaf_model.specs.Cut.{targetOf}
 use Rattle.leaf_cut.specs.Steps.{Rest}
 
 -- ---- the base's rest
@@ -40,3 +43,19 @@ asked-bytes-are-few size asked s h = record { fits = omega (arith, mul-le-mul h 
 pub area-and-tickets-have-room : (size b asked area tickets : ℕ) → asked ≡ pagesAsked size b
     → (leb (asked * size) area && leb (asked * 65) tickets) ≡ (leb (pagesAsked size b * size) area && leb (pagesAsked size b * 65) tickets)
 area-and-tickets-have-room size b asked area tickets e = rw e
+
+-- ---- the target
+
+module _ (size b : ℕ) where
+  pub many-records-are-cut-in-bulk : (size - 2) * 9 / 5 < b → some ((size - 2) * 3 / 4) ≡ targetOf size b
+  unfolding targetOf bulkAbove bulkTarget bodyLimit
+  many-records-are-cut-in-bulk h = rw (targetOf, lt-ltb ((size - 2) * 9 / 5) b h)
+
+  module _ (h : b ≤ (size - 2) * 9 / 5) where
+    pub fewer-records-are-halved : size - 2 < b → some (b / 2) ≡ targetOf size b
+    unfolding targetOf bulkAbove bulkTarget bodyLimit
+    fewer-records-are-halved k = rw (targetOf, le-ltb ((size - 2) * 9 / 5) b h, lt-ltb (size - 2) b k)
+
+    pub few-records-are-not-cut : b ≤ size - 2 → none ≡ targetOf size b
+    unfolding targetOf bulkAbove bulkTarget bodyLimit
+    few-records-are-not-cut k = rw (targetOf, le-ltb ((size - 2) * 9 / 5) b h, le-ltb (size - 2) b k)

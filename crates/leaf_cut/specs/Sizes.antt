@@ -1,6 +1,7 @@
 -- Cutting looks at nothing but how long the values are. The pending records by these lengths, and where a leaf ends among them;
 -- `proofs/Records.antt` shows that this is document 01's cutting of the records.
 use mathlib.Core.Bool.{true, false, cond}
+use mathlib.Core.Option.{Option, none, some}
 use mathlib.Core.List.{List, [], _∷_, _++_, map}
 use Prim.Native.Nat.{ℕ, zero, suc, _+_, _-_, _*_}
 use lib.Dec.{eqb, leb, ltb}
@@ -8,6 +9,7 @@ use lib.ListN.{length, getD, drop}
 use Rattle.leaf_node.specs.Record.{Record}
 use Rattle.leaf_node.specs.Page.{lengthAt, run}
 use Rattle.leaf_cut.specs.declared.Ended.{Ended}
+use Rattle.leaf_cut.specs.declared.Target.{Target}
 use Rattle.leaf_cut.specs.declared.Span.{Span}
 use Rattle.leaf_cut.specs.declared.Cursor.{Cursor}
 use Rattle.leaf_cut.specs.declared.Piece.{Piece}
@@ -73,3 +75,8 @@ pieceCount x = cond (x .insert) 1 (x .to - x .from)
 -- behind `taken` of the `all` records that an entry has from the cursor on
 unfoldable pub passedBy : Cursor → ℕ → ℕ → Cursor
 passedBy at all taken = cond (eqb taken all) (record { entry = at .entry + 1; skip = 0 }) (record { entry = at .entry; skip = at .skip + taken })
+
+-- ---- the target
+
+abbrev pub targetIn : Target → Option ℕ
+targetIn t = elim (t .cut) [ true ↦ some (t .body) | false ↦ none ]

@@ -10,13 +10,20 @@ ghost use lib.ListN.{length};
 ghost use Rattle.leaf_node.specs.Limits.{PageSize, pagesAsked};
 ghost use Rattle.leaf_node.specs.Page.{lengthAt, run, valuesSize};
 ghost use Rattle.leaf_node.specs.Steps.{Laid};
-ghost use Rattle.leaf_cut.specs.Sizes.{sum, cutSizes, pieceOf, pieceSizes, pieceCount, passedBy};
+ghost use Rattle.leaf_model.specs.Cut.{targetOf};
+ghost use Rattle.leaf_cut.specs.Sizes.{sum, cutSizes, pieceOf, pieceSizes, pieceCount, passedBy, targetIn};
 ghost use Rattle.leaf_cut.specs.Steps.{Rest, Modest, SkipIn, PieceIn, Leaf, Spread, CursorIn, RowAt, Leafed};
 
 // How many records, and how many bytes their values have.
 pub struct Gauge {
     pub count: usize,
     pub bytes: usize,
+}
+
+// Whether leaves are cut, and the body that each aims at.
+pub struct Target {
+    pub cut: bool,
+    pub body: usize,
 }
 
 // How far list and base reach: the entries used, where the base's rest begins, how many records the base has.
@@ -85,6 +92,30 @@ pub fn has_pages(pending: Gauge, area: usize, tickets: usize, size: usize) -> bo
 {
     let asked = pages_asked(34 * pending.count + pending.bytes, size);
     (asked * size <= area) & (asked * 65 <= tickets)
+}
+
+// Whether leaves are cut off pending records with this body, and their target: in bulk, or in halves.
+pub fn target_of(body: usize, size: usize) -> Target
+    requires { ⌜ (PageSize size) × (body ≤ 8388608) ⌝ }
+    ensures { λ r. ⌜ targetIn r ≡ targetOf size body ⌝ }
+{
+    let limit = size - 2;
+    if limit * 9 / 5 < body {
+        return Target {
+            cut: true,
+            body: limit * 3 / 4,
+        };
+    }
+    if limit < body {
+        return Target {
+            cut: true,
+            body: body / 2,
+        };
+    }
+    Target {
+        cut: false,
+        body: 0,
+    }
 }
 
 // ---- pieces

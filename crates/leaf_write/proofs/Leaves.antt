@@ -116,7 +116,7 @@ module _ (rows keys : List (List ℕ)) (store page : List ℕ) (s : Span) (h : K
   rest-at : s .used ≤ at .entry → at .entry ≡ s .used
   rest-at l = omega (arith, c .entry-in)
 
-  rest-many : (l : s .used ≤ at .entry) → length (recordsFrom s rows keys store page at) ≡ s .n - (s .low + at .skip)
+  pub rest-many : (l : s .used ≤ at .entry) → length (recordsFrom s rows keys store page at) ≡ s .n - (s .low + at .skip)
   unfolding recordsBetween
   rest-many l =
       ap length (the-records-from-the-rest-on rows keys store page s h at (rest-at l) (c .rest-in (rest-at l))) ∙ length-run (s .n - (s .low + at .skip)) (s .low + at .skip) (recordAt page)
