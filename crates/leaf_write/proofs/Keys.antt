@@ -10,12 +10,15 @@ use lib.ListN.{length, getD, replicate}
 use mir.Syntax.{w64}
 use mir.Val.{Fits}
 use borrow.Author.Tests.{lt-ltb, le-ltb, eq-eqb, ne-eqb, eqb-true, eqb-false}
+use Rattle.bit_ops.specs.Key.{eqKey}
+use Rattle.bit_ops.specs.Separate.{separateOf, separateLeaves}
 use Rattle.leaf_node.specs.Record.{Record}
 use Rattle.leaf_node.specs.Page.{pointer, keyAt, recordAt, run, recordsBetween}
 use Rattle.leaf_node.specs.Build.{put}
 use Rattle.leaf_node.proofs.Copying.{put-all}
 use Rattle.leaf_cut.specs.declared.Span.{Span}
 use Rattle.leaf_cut.specs.declared.Cursor.{Cursor}
+use Rattle.leaf_model.specs.Work.{zeroKey}
 use Rattle.leaf_work.specs.Flat.{entryOf}
 use Rattle.leaf_work.specs.Pending.{held, insertPlace}
 use Rattle.leaf_cut.specs.Records.{recordsFrom, entryRecords}
@@ -27,6 +30,14 @@ use Rattle.leaf_write.proofs.Leaves.{rest-many, a-cursor-has-its-part}
 
 pub a-key-is-copied : (p : List ℕ) (i : ℕ) (x k : List ℕ) → x ≡ keyAt p i → length x ≡ 32 → k ≡ put (replicate 32 0) 0 x → k ≡ keyAt p i
 a-key-is-copied p i x k e l q = q ∙ put-all (replicate 32 0) x l ∙ e
+
+-- between a leaf and what follows it
+pub the-keys-are-separated : (p : List ℕ) (i : ℕ) (a b r : List ℕ) → a ≡ keyAt p i → r ≡ separateLeaves a b (replicate 32 0) → r ≡ separateLeaves (keyAt p i) b zeroKey
+the-keys-are-separated p i a b r e q = q ∙ ap (λ (k : List ℕ). separateLeaves k b zeroKey) e
+
+pub different-keys-are-separated : (a b : List ℕ) → eqKey a b ≡ false → separateLeaves a b zeroKey ≡ separateOf a b
+unfolding separateLeaves
+different-keys-are-separated a b e = rw e
 
 module _ (rows keys : List (List ℕ)) (page : List ℕ) (s : Span) (at : Cursor) (h : KeyThere rows keys page s at) where
   module _ (l : s .used ≤ at .entry) where

@@ -12,10 +12,12 @@ ghost use mathlib.Core.Path.{_≡_};
 ghost use mathlib.Core.List.{[], _∷_};
 ghost use Prim.Native.Nat.{_+_, _≤_, _<_};
 ghost use lib.ListN.{length, take};
+ghost use Rattle.bit_ops.specs.Separate.{separateLeaves};
 ghost use Rattle.leaf_node.specs.Record.{total};
 ghost use Rattle.leaf_node.specs.Page.{pointer, keyAt, recordsBetween};
 ghost use Rattle.leaf_node.specs.Build.{put, pushed, build};
 ghost use Rattle.leaf_node.specs.Ticket.{packedWith};
+ghost use Rattle.leaf_model.specs.Work.{zeroKey};
 ghost use Rattle.leaf_work.specs.Tests.{keyIf};
 ghost use Rattle.leaf_cut.specs.Records.{recordsFrom, entryRecords};
 ghost use Rattle.leaf_cut.specs.Steps.{CursorIn, Kept};
@@ -204,6 +206,17 @@ pub fn op_first_key(
         return base_key(page, row[2] + cursor.skip);
     }
     keys[e]
+}
+
+// The separator between a leaf, by its page and the index of its last record, and the records behind it, by the first key of these.
+pub fn next_separator(leaf: &[u8], last: usize, next: &[u8; 32]) -> [u8; 32]
+    requires { ⌜ pointer (last + 1) ≤ length (now leaf) ⌝ }
+    ensures { λ r. ⌜ r ≡ separateLeaves (keyAt (now (leaf .entry)) last) (now (next .entry)) zeroKey ⌝ }
+{
+    let key = base_key(leaf, last);
+    let mut out = [0u8; 32];
+    bit_ops::separate(&key, next, &mut out);
+    out
 }
 
 // ---- tickets
