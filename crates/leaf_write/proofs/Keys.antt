@@ -13,12 +13,15 @@ use borrow.Author.Tests.{lt-ltb, le-ltb, eq-eqb, ne-eqb, eqb-true, eqb-false}
 use Rattle.bit_ops.specs.Key.{eqKey}
 use Rattle.bit_ops.specs.Separate.{separateOf, separateLeaves}
 use Rattle.leaf_node.specs.Record.{Record}
-use Rattle.leaf_node.specs.Page.{pointer, keyAt, recordAt, run, recordsBetween}
-use Rattle.leaf_node.specs.Build.{put}
+use Rattle.leaf_node.specs.Page.{count, pointer, keyAt, recordAt, run, recordsBetween, records}
+use Rattle.leaf_node.specs.Build.{put, build}
+use Rattle.leaf_node.specs.Fits as page
+use Rattle.leaf_node.proofs.Lengths.{length-run}
 use Rattle.leaf_node.proofs.Copying.{put-all}
+use Rattle.leaf_node.proofs.RoundTrips.{a-built-page-has-its-records}
 use Rattle.leaf_cut.specs.declared.Span.{Span}
 use Rattle.leaf_cut.specs.declared.Cursor.{Cursor}
-use Rattle.leaf_model.specs.Work.{zeroKey}
+use Rattle.leaf_model.specs.Work.{zeroKey, lastKey}
 use Rattle.leaf_work.specs.Flat.{entryOf}
 use Rattle.leaf_work.specs.Pending.{held, insertPlace}
 use Rattle.leaf_cut.specs.Records.{recordsFrom, entryRecords}
@@ -153,3 +156,28 @@ module _ (rows keys : List (List ℕ)) (store page : List ℕ) (s : Span) (h : K
     | yes l ↦ ap first (the-records-from-an-entry-on rows keys store page s h at l (c .skip-in l)) ∙ in-entry l
     | no l ↦ ap first (the-records-from-the-rest-on rows keys store page s h at (omega (arith, c .entry-in)) (c .rest-in (omega (arith, c .entry-in)))) ∙ in-rest (omega arith)
   ]
+
+-- ---- the last record of a leaf's page
+
+run-last : (p : List ℕ) (m i : ℕ) → lastKey (run (suc m) i (recordAt p)) ≡ keyAt p (i + m)
+unfolding run recordAt
+run-last p zero i = let e : i + 0 ≡ i = omega arith in rw e
+run-last p (suc m) i = let e : i + suc m ≡ suc i + m = omega arith in rw e (run-last p m (suc i))
+
+pub the-last-key-of-a-page-is-that-of-its-last-record : (p : List ℕ) → 0 < count p → keyAt p (count p - 1) ≡ lastKey (records p)
+unfolding records recordsBetween
+the-last-key-of-a-page-is-that-of-its-last-record p h =
+    let e : count p - 0 ≡ suc (count p - 1) = omega arith in
+    let f : 0 + (count p - 1) ≡ count p - 1 = omega arith in
+    sym (ap (λ (m : ℕ). lastKey (run m 0 (recordAt p))) e ∙ run-last p (count p - 1) 0 ∙ ap (keyAt p) f)
+
+records-are-counted : (p : List ℕ) → length (records p) ≡ count p
+unfolding records recordsBetween
+records-are-counted p = length-run (count p - 0) 0 (recordAt p) ∙ omega arith
+
+-- so the last key of a leaf is found in its page
+pub the-last-key-of-a-leaf : (size : ℕ) (rs : List Record) → page.Fits size rs → 0 < length rs → keyAt (build size rs) (length rs - 1) ≡ lastKey rs
+the-last-key-of-a-leaf size rs f h =
+    let r : records (build size rs) ≡ rs = a-built-page-has-its-records size rs f in
+    let n : count (build size rs) ≡ length rs = sym (records-are-counted (build size rs)) ∙ ap length r in
+    ap (λ (m : ℕ). keyAt (build size rs) (m - 1)) (sym n) ∙ the-last-key-of-a-page-is-that-of-its-last-record (build size rs) (omega (arith, n)) ∙ ap lastKey r
