@@ -4,27 +4,20 @@ use mathlib.Core.Bool.{Bool, true, false, true≢false}
 use mathlib.Core.List.{List, [], _∷_, _++_, append-nil, append-assoc}
 use Prim.Native.Nat.{ℕ, zero, suc, _+_, _-_, _*_, _≤_, _<_}
 use native.Mathlib.Omega.{arith}
-use native.Mathlib.Nat.{add-zero, add-assoc}
-use native.Mathlib.Numerals.{add-one}
-use lib.Dec.{eqb, ltb, leb}
-use lib.ListN.{length, getD, drop, length-append, length-drop}
+use lib.Dec.{ltb, leb}
+use lib.ListN.{length, getD, drop, length-append}
 use lib.Seq.{drop-append-le, drop-append-add}
 use mir.Syntax.{w64}
 use mir.Val.{Fits}
-use borrow.Author.Tests.{eq-eqb, ne-eqb, eqb-true, eqb-false, ltb-true, ltb-false, leb-true, leb-false}
+use borrow.Author.Tests.{eq-eqb, ne-eqb, ltb-true, ltb-false, leb-true, leb-false}
 use Rattle.leaf_node.specs.Page.{lengthAt, run}
 use Rattle.leaf_node.proofs.Lengths.{length-run}
-use Rattle.leaf_work.specs.Flat.{entryOf}
-use Rattle.leaf_work.specs.Ready.{EntryIn}
 use Rattle.leaf_cut.specs.declared.Gauge.{Gauge}
-use Rattle.leaf_cut.specs.declared.Span.{Span}
 use Rattle.leaf_cut.specs.declared.Cursor.{Cursor}
 use Rattle.leaf_cut.specs.declared.Piece.{Piece}
 use Rattle.leaf_cut.specs.declared.Ended.{Ended}
-use Rattle.leaf_cut.specs.declared.Taken.{Taken}
-use Rattle.leaf_cut.specs.Sizes.{sum, cutSizes, rowSizes, listedSizes, pendingSizes, indexOf, sizesFrom, pieceOf, pieceSizes, pieceCount, passedBy}
-use Rattle.leaf_cut.specs.Steps.{Rest, SkipIn, PieceIn, Leaf, Spread, CursorIn, RowAt, Walked, Leafed}
-use Rattle.leaf_cut.proofs.Pieces.{drop-run}
+use Rattle.leaf_cut.specs.Sizes.{cutSizes, rowSizes, listedSizes, pieceOf, pieceSizes, pieceCount, passedBy}
+use Rattle.leaf_cut.specs.Steps.{Rest, PieceIn, RowAt}
 use Rattle.leaf_cut.proofs.Ending.{ends-before, ends-behind, ends-later}
 
 -- ---- where a leaf ends among the records of a piece, whatever comes behind it

@@ -1,5 +1,5 @@
 -- How much is pending, and how many pages that takes. Assumes nothing.
-use mathlib.Core.Path.{_≡_, refl, sym, ap, _∙_}
+use mathlib.Core.Path.{_≡_, refl}
 use mathlib.Core.Bool.{_&&_}
 use mathlib.Core.Option.{none, some}
 use mathlib.Core.List.{List}
@@ -11,7 +11,7 @@ use mir.Syntax.{w64}
 use mir.Val.{Fits}
 use borrow.Author.Tests.{lt-ltb, le-ltb}
 use Rattle.leaf_node.specs.Limits.{PageSize, bodyLimit, mergeBelow, bulkAbove, bulkTarget, pagesAsked}
-use Rattle.leaf_node.specs.Page.{count, run, recordAt, recordsBetween, valuesSize}
+use Rattle.leaf_node.specs.Page.{run, recordsBetween, valuesSize}
 use Rattle.leaf_node.specs.Record.{total}
 use Rattle.leaf_node.specs.Steps.{Laid}
 use Rattle.leaf_model.specs.Cut.{targetOf}

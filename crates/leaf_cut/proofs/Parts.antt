@@ -1,7 +1,6 @@
 -- The records from a cursor on: those of its entry, and those behind it. Assumes nothing.
 use mathlib.Core.Path.{_≡_, refl, sym, ap, _∙_}
-use mathlib.Core.Bool.{Bool, true, false}
-use mathlib.Core.List.{List, [], _∷_, _++_, append-nil, append-assoc, map}
+use mathlib.Core.List.{List, [], _∷_, _++_, append-nil, append-assoc}
 use Prim.Native.Nat.{ℕ, zero, suc, _+_, _-_, _≤_, _<_}
 use native.Mathlib.Omega.{arith}
 use native.Mathlib.Numerals.{add-one}
@@ -9,16 +8,14 @@ use lib.ListN.{length, getD, take, drop, length-append, length-map, length-drop}
 use lib.Seq.{drop-append-le, drop-append-add}
 use borrow.Author.Tests.{eq-eqb, ne-eqb}
 use Rattle.leaf_node.specs.Record.{Record}
-use Rattle.leaf_node.specs.Page.{lengthAt, recordAt, run, recordsBetween}
-use Rattle.leaf_work.specs.Lent.{blank}
+use Rattle.leaf_node.specs.Page.{recordAt, recordsBetween}
 use Rattle.leaf_work.specs.Flat.{entryOf, entriesOf, listOf}
 use Rattle.leaf_work.specs.Pending.{held, chunkPlaces, insertPlace, entryPlaces, placesOf, recordsHeld}
-use Rattle.leaf_work.specs.Ready.{EntryIn}
 use Rattle.leaf_work.proofs.Tests.{map-append}
 use Rattle.leaf_work.proofs.Operations.{chunk-held}
 use Rattle.leaf_cut.specs.declared.Span.{Span}
 use Rattle.leaf_cut.specs.declared.Cursor.{Cursor}
-use Rattle.leaf_cut.specs.Sizes.{sizes, rowSizes, listedSizes, indexOf}
+use Rattle.leaf_cut.specs.Sizes.{rowSizes, listedSizes, indexOf}
 use Rattle.leaf_cut.specs.Records.{spannedRecords, recordsFrom, entryRecords}
 use Rattle.leaf_cut.specs.Steps.{Kept, Spread}
 use Rattle.leaf_cut.proofs.Pieces.{drop-run}

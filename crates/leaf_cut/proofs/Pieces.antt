@@ -1,20 +1,20 @@
 -- What a piece holds: how many records, and how many bytes. Assumes nothing.
-use mathlib.Core.Path.{_≡_, refl, sym, ap, _∙_}
-use mathlib.Core.Bool.{Bool, true, false}
-use mathlib.Core.List.{List, [], _∷_}
+use mathlib.Core.Path.{_≡_, ap, _∙_}
+use mathlib.Core.Bool.{true, false}
+use mathlib.Core.List.{List}
 use Prim.Native.Nat.{ℕ, zero, suc, _+_, _-_, _≤_, _<_}
 use native.Mathlib.Omega.{arith}
 use native.Mathlib.Numerals.{add-one}
 use lib.ListN.{length, getD, drop}
 use mir.Syntax.{w64}
 use mir.Val.{Fits}
-use borrow.Author.Tests.{eq-eqb, ne-eqb, eqb-true, eqb-false}
+use borrow.Author.Tests.{ne-eqb}
 use Rattle.leaf_node.specs.Page.{start, lengthAt, run, valuesSize}
 use Rattle.leaf_node.specs.Steps.{Laid}
 use Rattle.leaf_node.proofs.Lengths.{length-run}
-use Rattle.leaf_node.proofs.Laying.{starts-between, values-size-is-a-difference}
+use Rattle.leaf_node.proofs.Laying.{values-size-is-a-difference}
 use Rattle.leaf_cut.specs.declared.Piece.{Piece}
-use Rattle.leaf_cut.specs.Sizes.{sum, rowSizes, pieceOf, pieceSizes, pieceCount}
+use Rattle.leaf_cut.specs.Sizes.{sum, pieceOf, pieceSizes, pieceCount}
 use Rattle.leaf_cut.specs.Steps.{Modest, SkipIn, PieceIn}
 
 -- ---- the values of a range

@@ -2,23 +2,21 @@
 use mathlib.Core.Path.{_≡_, refl, sym, ap, _∙_}
 use mathlib.Core.Bool.{Bool, true, false}
 use mathlib.Core.Option.{Option, none, some}
-use mathlib.Core.List.{List, [], _∷_, _++_, append-assoc, map}
+use mathlib.Core.List.{List, [], _∷_, _++_, append-assoc}
 use Prim.Native.Nat.{ℕ, zero, suc, _+_, _-_, _*_, _≤_, _<_}
 use native.Mathlib.Omega.{arith}
 use native.Mathlib.Decide.{decLt}
-use native.Mathlib.Numerals.{add-one}
 use lib.Dec.{eqb, ltb, leb}
 use lib.ListN.{length, getD, take, drop, length-append, length-map, length-drop}
 use lib.Seq.{length-take-le, take-nil, take-at, drop-at, drop-drop}
-use borrow.Author.Tests.{eq-eqb, ne-eqb, eqb-true, eqb-false, ltb-true, ltb-false, leb-true, leb-false, lt-ltb, le-ltb, le-leb, lt-leb}
+use borrow.Author.Tests.{eqb-true, eqb-false, ltb-true, ltb-false, leb-true, leb-false, lt-ltb, le-ltb, le-leb, lt-leb}
 use Rattle.leaf_node.specs.Record.{Record, cost, body, total}
-use Rattle.leaf_node.specs.Page.{count, start, lengthAt, valueAt, recordAt, run, recordsBetween}
+use Rattle.leaf_node.specs.Page.{count, start, lengthAt, recordAt, run, recordsBetween}
 use Rattle.leaf_node.specs.Steps.{Laid}
 use Rattle.leaf_node.proofs.Lengths.{body-is-pointers-and-values}
 use Rattle.leaf_node.proofs.Laying.{value-length}
 use Rattle.leaf_model.specs.Cut.{Taken, takeUntil}
 use Rattle.leaf_work.specs.declared.Work.{Work}
-use Rattle.leaf_work.specs.declared.Entry.{Entry}
 use Rattle.leaf_work.specs.Lent.{blank}
 use Rattle.leaf_work.specs.Flat.{entryOf, entriesOf, listOf}
 use Rattle.leaf_work.specs.Pending.{held, chunkPlaces, entryPlaces, placesOf, recordsHeld, listedPlaces, restPlaces, pendingOf}
@@ -26,7 +24,6 @@ use Rattle.leaf_work.specs.Ready.{EntryIn, Ready}
 use Rattle.leaf_work.proofs.Tests.{map-append}
 use Rattle.leaf_work.proofs.Operations.{total-append, chunk-held}
 use Rattle.leaf_work.proofs.FlatList.{length-entries, entry-at, rows-and-keys-agree}
-use Rattle.leaf_cut.specs.declared.Span.{Span}
 use Rattle.leaf_cut.specs.declared.Cursor.{Cursor}
 use Rattle.leaf_cut.specs.declared.Ended.{Ended}
 use Rattle.leaf_cut.specs.declared.Taken as code

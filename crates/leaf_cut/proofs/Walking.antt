@@ -1,8 +1,8 @@
 -- One leaf off the pending records: from entry to entry, then through the base's rest. Assumes nothing.
 use mathlib.Core.Path.{_≡_, refl, sym, ap, _∙_}
 use mathlib.Core.Bool.{Bool, true, false, true≢false, false≢true}
-use mathlib.Core.List.{List, [], _∷_, _++_, append-nil}
-use Prim.Native.Nat.{ℕ, zero, suc, _+_, _-_, _*_, _≤_, _<_}
+use mathlib.Core.List.{List, [], _∷_, _++_}
+use Prim.Native.Nat.{ℕ, suc, _+_, _-_, _≤_, _<_}
 use native.Mathlib.Omega.{arith}
 use native.Mathlib.Decide.{decLt}
 use native.Mathlib.Numerals.{add-one}
@@ -17,11 +17,10 @@ use Rattle.leaf_work.specs.Ready.{EntryIn}
 use Rattle.leaf_cut.specs.declared.Gauge.{Gauge}
 use Rattle.leaf_cut.specs.declared.Span.{Span}
 use Rattle.leaf_cut.specs.declared.Cursor.{Cursor}
-use Rattle.leaf_cut.specs.declared.Piece.{Piece}
 use Rattle.leaf_cut.specs.declared.Ended.{Ended}
 use Rattle.leaf_cut.specs.declared.Taken.{Taken}
 use Rattle.leaf_cut.specs.Sizes.{cutSizes, rowSizes, listedSizes, pendingSizes, indexOf, sizesFrom, pieceOf, pieceSizes, pieceCount, passedBy}
-use Rattle.leaf_cut.specs.Steps.{Rest, SkipIn, PieceIn, Leaf, Spread, CursorIn, RowAt, Walked, Leafed}
+use Rattle.leaf_cut.specs.Steps.{Rest, SkipIn, PieceIn, Spread, CursorIn, RowAt, Walked, Leafed}
 use Rattle.leaf_cut.proofs.Pieces.{drop-run}
 use Rattle.leaf_cut.proofs.Cursors.{Within, a-leaf-among-the-records-of-a-piece, entry-split, one-more-entry, pieces-are-counted}
 

@@ -5,23 +5,20 @@ use mathlib.Core.List.{List, [], _∷_, _++_, append-nil}
 use Prim.Native.Nat.{ℕ, zero, suc, _+_, _-_, _*_, _≤_, _<_}
 use native.Mathlib.Omega.{arith}
 use native.Mathlib.Decide.{decLt}
-use native.Mathlib.Nat.{add-assoc}
 use lib.Dec.{ltb}
-use lib.ListN.{length, getD, take, drop, length-append, length-take}
-use lib.Seq.{length-take-le, take-all, take-append-le}
+use lib.ListN.{length, getD, take, length-append, length-take}
+use lib.Seq.{length-take-le, take-all}
 use mir.Syntax.{w64}
 use mir.Val.{Fits}
 use borrow.Author.Tests.{lt-ltb, le-ltb}
 use Rattle.leaf_node.specs.Limits.{bodyLimit}
-use Rattle.leaf_node.specs.Record.{Record, body, values, total}
-use Rattle.leaf_node.specs.Page.{count, pointer, recordAt, run, recordsBetween}
-use Rattle.leaf_node.specs.Build.{pointers, put, started, pushed, build}
+use Rattle.leaf_node.specs.Record.{Record, values, total}
+use Rattle.leaf_node.specs.Page.{count, pointer, recordAt, recordsBetween}
+use Rattle.leaf_node.specs.Build.{pointers, started, pushed, build}
 use Rattle.leaf_node.specs.Fits.{All, Keyed}
 use Rattle.leaf_node.specs.Steps.{Laid}
 use Rattle.leaf_node.proofs.Lengths.{length-run, body-is-pointers-and-values}
 use Rattle.leaf_model.proofs.Lists.{all-left, all-right}
-use Rattle.leaf_work.specs.Flat.{entryOf}
-use Rattle.leaf_work.specs.Ready.{EntryIn}
 use Rattle.leaf_work.proofs.Operations.{total-append}
 use Rattle.leaf_builder.specs.Steps.{Begins}
 use Rattle.leaf_builder.proofs.Putting.{put-none}
@@ -29,13 +26,12 @@ use Rattle.leaf_builder.proofs.Pushing.{length-started, length-pushed, pushes-j
 use Rattle.leaf_cut.specs.declared.Gauge.{Gauge}
 use Rattle.leaf_cut.specs.declared.Span.{Span}
 use Rattle.leaf_cut.specs.declared.Cursor.{Cursor}
-use Rattle.leaf_cut.specs.Sizes.{rowSizes}
 use Rattle.leaf_cut.specs.Records.{recordsFrom, entryRecords}
 use Rattle.leaf_cut.specs.Steps.{Spread, CursorIn, Kept}
 use Rattle.leaf_cut.proofs.Walking.{insert-sizes, chunk-many, an-entry-has-a-record}
 use Rattle.leaf_cut.proofs.Parts.{what-is-kept-is-spread, the-records-from-an-entry-on, the-records-from-the-rest-on, an-entry-has-records-from-its-cursor-on}
 use Rattle.leaf_write.specs.declared.Pushed.{Pushed}
-use Rattle.leaf_write.specs.Filling.{partFrom, RangeIn, InsertIn, EntryThere, PartThere, Filling, LeafFits}
+use Rattle.leaf_write.specs.Filling.{partFrom, EntryThere, PartThere, Filling, LeafFits}
 
 -- ---- records pushed in two goes
 

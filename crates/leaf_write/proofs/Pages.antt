@@ -1,23 +1,21 @@
 -- The page of a leaf, piece by piece. Assumes nothing.
 use mathlib.Core.Path.{_≡_, refl, sym, ap, _∙_}
-use mathlib.Core.Bool.{Bool, true, false, not}
-use mathlib.Core.List.{List, [], _∷_, _++_, append-nil}
+use mathlib.Core.Bool.{not}
+use mathlib.Core.List.{List, [], _∷_}
 use Prim.Native.Nat.{ℕ, zero, suc, _+_, _-_, _≤_, _<_}
 use native.Mathlib.Omega.{arith}
 use native.Mathlib.Decide.{decLe}
-use lib.Dec.{eqb, leb}
-use lib.ListN.{length, getD, take, drop, length-take, length-drop, take-append-drop}
-use lib.Seq.{length-take-le, take-all}
+use lib.Dec.{eqb}
+use lib.ListN.{length, getD, take, drop}
+use lib.Seq.{take-all}
 use mir.Syntax.{w64}
 use mir.Val.{Fits}
 use borrow.Author.Tests.{le-leb, lt-leb, lt-ltb, le-ltb}
 use Rattle.leaf_node.specs.Record.{Record, total}
-use Rattle.leaf_node.specs.Page.{count, pointer, start, recordAt, run, recordsBetween, valuesSize}
-use Rattle.leaf_node.specs.Steps.{Laid}
+use Rattle.leaf_node.specs.Page.{count, start, recordAt, run, recordsBetween, valuesSize}
 use Rattle.leaf_node.specs.Build.{pushed}
-use Rattle.leaf_node.specs.Fits.{All, nil, cons, Keyed}
 use Rattle.leaf_node.proofs.Lengths.{length-run}
-use Rattle.leaf_node.proofs.Laying.{starts-between, values-size-is-a-difference, range-length}
+use Rattle.leaf_node.proofs.Laying.{values-size-is-a-difference, range-length}
 use Rattle.leaf_builder.specs.Steps.{CellFits, Chunk}
 use Rattle.leaf_work.specs.Pending.{held}
 use Rattle.leaf_cut.specs.declared.Span.{Span}
