@@ -3,6 +3,8 @@ use crate::line::close;
 use crate::line::say;
 use crate::line::say_reply;
 use crate::pages::flagged_pair;
+use leaf_open::Updated;
+use leaf_updater::LeafIngested;
 use leaf_work::Work;
 
 fn no_work() -> Work {
@@ -26,30 +28,28 @@ fn no_work() -> Work {
     }
 }
 
-// An opening without a base.
-fn open_with(rows: &mut [[usize; 5]], keys: &mut [[u8; 32]]) -> u8 {
+// An opening without a cutoff, with a base where `based` is set. The calls are few and large, so each has a function of its own.
+fn opened(
+    based: u8,
+    page: &[u8],
+    rows: &mut [[usize; 5]],
+    keys: &mut [[u8; 32]],
+    store: &mut [u8],
+) -> Updated {
     let none = [0u8; 32];
-    let page = [0u8; 1];
+    leaf_updater::leaf_flat_open(based, page, &none, 0, &none, no_work(), rows, keys, store)
+}
+
+fn opens(rows: &mut [[usize; 5]], keys: &mut [[u8; 32]]) -> u8 {
     let mut store = [0u8; 4096];
-    let after = leaf_updater::leaf_flat_open(
-        0,
-        &page,
-        &none,
-        0,
-        &none,
-        no_work(),
-        rows,
-        keys,
-        &mut store,
-    );
-    after.refusal
+    opened(0, &[0u8; 1], rows, keys, &mut store).refusal
 }
 
 fn list_of_120() {
     say(b"  list of 120                                ");
     let mut rows = [[0usize; 5]; 120];
     let mut keys = [[0u8; 32]; 120];
-    let refusal = open_with(&mut rows, &mut keys);
+    let refusal = opens(&mut rows, &mut keys);
     say_reply(refusal);
     close(refusal == 7);
 }
@@ -58,41 +58,34 @@ fn list_of_121() {
     say(b"  list of 121                                ");
     let mut rows = [[0usize; 5]; 121];
     let mut keys = [[0u8; 32]; 121];
-    let refusal = open_with(&mut rows, &mut keys);
+    let refusal = opens(&mut rows, &mut keys);
     say_reply(refusal);
     close(refusal == 0);
 }
 
-// An ingest of a new value into a work without a base.
-fn value_trial(label: &[u8], value: &[u8], refusal: u8) {
-    say(label);
-    let none = [0u8; 32];
-    let page = [0u8; 1];
+// An opening, with a base where `based` is set, and an ingest: with the value where `put` is set, else a deletion.
+fn ingested(based: u8, page: &[u8], key: &[u8; 32], put: u8, value: &[u8]) -> LeafIngested {
     let mut rows = [[0usize; 5]; 121];
     let mut keys = [[0u8; 32]; 121];
     let mut store = [0u8; 4096];
-    let work = leaf_updater::leaf_flat_open(
-        0,
-        &page,
-        &none,
-        0,
-        &none,
-        no_work(),
-        &mut rows,
-        &mut keys,
-        &mut store,
-    ).work;
-    let after = leaf_updater::leaf_flat_ingest(
+    let work = opened(based, page, &mut rows, &mut keys, &mut store).work;
+    leaf_updater::leaf_flat_ingest(
         work,
         &mut rows,
         &mut keys,
         &mut store,
-        &page,
-        &none,
-        1,
+        page,
+        key,
+        put,
         0,
         value,
-    );
+    )
+}
+
+// A new value in a work without a base.
+fn value_trial(label: &[u8], value: &[u8], refusal: u8) {
+    say(label);
+    let after = ingested(0, &[0u8; 1], &[0u8; 32], 1, value);
     say_reply(after.refusal);
     close(after.refusal == refusal);
 }
@@ -100,35 +93,10 @@ fn value_trial(label: &[u8], value: &[u8], refusal: u8) {
 // A base of two flagged records, of which the one with this key is deleted.
 fn report_trial(label: &[u8], first: u8, reported: u8) {
     say(label);
-    let none = [0u8; 32];
     let mut key = [0u8; 32];
     key[0] = first;
     let page = flagged_pair();
-    let mut rows = [[0usize; 5]; 121];
-    let mut keys = [[0u8; 32]; 121];
-    let mut store = [0u8; 4096];
-    let work = leaf_updater::leaf_flat_open(
-        1,
-        &page,
-        &none,
-        0,
-        &none,
-        no_work(),
-        &mut rows,
-        &mut keys,
-        &mut store,
-    ).work;
-    let after = leaf_updater::leaf_flat_ingest(
-        work,
-        &mut rows,
-        &mut keys,
-        &mut store,
-        &page,
-        &key,
-        0,
-        0,
-        &none,
-    );
+    let after = ingested(1, &page, &key, 0, &[0u8; 1]);
     if after.reported == 0 {
         say(b"nothing reported");
     } else {
