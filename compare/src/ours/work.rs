@@ -258,6 +258,24 @@ fn entry(row: &[usize], key: &[u8]) -> Result<Entry, Damage> {
     })
 }
 
+/// A call that only reads list and store: the work record, both as they are lent, and what else it takes.
+macro_rules! reading {
+    ($call:ident, $state:ident, $flat:ident $(, $more:expr)*) => {
+        unsafe {
+            $call(
+                $state.work.clone(),
+                $flat.rows.ptr(),
+                $flat.entries,
+                $flat.keys.ptr(),
+                $flat.entries,
+                $flat.store.ptr(),
+                $flat.bytes
+                $(, $more)*
+            )
+        }
+    };
+}
+
 /// The refusal or 0, and work record, list and store after the call.
 pub type After = Result<(u8, State), Damage>;
 
@@ -336,59 +354,30 @@ pub fn ingest(state: &State, page: &[u8], key: &Key, change: &Change) -> AfterIn
 pub fn next_base(state: &State, base: &Base, cutoff: Option<Key>) -> After {
     let flat = Flat::new(state);
     let page = Lent::new(&base.page);
-    let after = unsafe {
-        leaf_flat_next_base(
-            state.work.clone(),
-            flat.rows.ptr(),
-            flat.entries,
-            flat.keys.ptr(),
-            flat.entries,
-            flat.store.ptr(),
-            flat.bytes,
-            page.ptr(),
-            base.page.len(),
-            &base.separator,
-            cutoff.is_some().into(),
-            &cutoff.unwrap_or([0x77; 32]),
-        )
-    };
+    let after = reading!(
+        leaf_flat_next_base,
+        state,
+        flat,
+        page.ptr(),
+        base.page.len(),
+        &base.separator,
+        cutoff.is_some().into(),
+        &cutoff.unwrap_or([0x77; 32])
+    );
     page.kept("page", &base.page)?;
     Ok((after.refusal, flat.state(after.work)?))
 }
 
 pub fn remove_cutoff(state: &State) -> After {
     let flat = Flat::new(state);
-    let after = unsafe {
-        leaf_flat_remove_cutoff(
-            state.work.clone(),
-            flat.rows.ptr(),
-            flat.entries,
-            flat.keys.ptr(),
-            flat.entries,
-            flat.store.ptr(),
-            flat.bytes,
-        )
-    };
+    let after = reading!(leaf_flat_remove_cutoff, state, flat);
     Ok((after.refusal, flat.state(after.work)?))
 }
 
 pub fn twin(state: &State, page: &[u8], i: usize) -> Result<TwinPlace, Damage> {
     let flat = Flat::new(state);
     let lent = Lent::new(page);
-    let place = unsafe {
-        leaf_flat_twin(
-            state.work.clone(),
-            flat.rows.ptr(),
-            flat.entries,
-            flat.keys.ptr(),
-            flat.entries,
-            flat.store.ptr(),
-            flat.bytes,
-            lent.ptr(),
-            page.len(),
-            i,
-        )
-    };
+    let place = reading!(leaf_flat_twin, state, flat, lent.ptr(), page.len(), i);
     only_read(&flat, state, &lent, page)?;
     Ok(place)
 }
@@ -399,22 +388,16 @@ pub fn part(state: &State, page: &[u8], i: usize, room: usize) -> Result<Option<
     let lent = Lent::new(page);
     let held = vec![0x5a; room];
     let mut out = Lent::new(&held);
-    let length = unsafe {
-        leaf_flat_part(
-            state.work.clone(),
-            flat.rows.ptr(),
-            flat.entries,
-            flat.keys.ptr(),
-            flat.entries,
-            flat.store.ptr(),
-            flat.bytes,
-            lent.ptr(),
-            page.len(),
-            i,
-            out.ptr_mut(),
-            room,
-        )
-    };
+    let length = reading!(
+        leaf_flat_part,
+        state,
+        flat,
+        lent.ptr(),
+        page.len(),
+        i,
+        out.ptr_mut(),
+        room
+    );
     only_read(&flat, state, &lent, page)?;
     let bytes = out.after_call("out")?;
     if room < length {
