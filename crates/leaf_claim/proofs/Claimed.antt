@@ -25,7 +25,8 @@ use Rattle.leaf_work.specs.Verdict.{Opening, openVerdict, lentVerdict}
 use Rattle.leaf_work.specs.Outcome.{replyNumber, openOf, ingestOf, nextBaseOf, removeCutoffOf}
 use Rattle.leaf_work.specs.Digest.{digestNumber, Digested, leavesBy, digestReplyBy, digestOf}
 use Rattle.leaf_work.proofs.Laid.{Keyed, list-length, store-length, pending-parts}
-use Rattle.leaf_work.proofs.Canonical.{EntryKeyed, sound-work-is-canonical}
+use Rattle.leaf_work.proofs.PendingRecords.{EntryKeyed}
+use Rattle.leaf_work.proofs.Canonical.{sound-work-is-canonical}
 use Rattle.leaf_claim.specs.Sequence.{State, Call, ingest, digest, next-base, remove-cutoff, lent, answered, next, nexts, opened}
 use Rattle.leaf_claim.specs.Claim.{Formed, FormedOpening, stepsSay, Digests, Claim}
 use Rattle.leaf_claim.proofs.Reached.{Reached, reached-state-earns-no-refusal}

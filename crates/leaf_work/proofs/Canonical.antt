@@ -4,7 +4,7 @@ use mathlib.Core.Path.{_≡_, refl, sym, ap, _∙_}
 use mathlib.Core.Bool.{Bool, true, false, not, _&&_, _||_, false≢true}
 use mathlib.Core.Option.{some}
 use mathlib.Core.List.{List, [], _∷_, _++_}
-use Prim.Native.Nat.{ℕ, _-_, _≤_, _<_}
+use Prim.Native.Nat.{ℕ, _-_, _<_}
 use native.Mathlib.Omega.{arith}
 use native.Mathlib.Nat.{lt-trans, lt-of-lt-of-le, lt-of-le-of-lt}
 use lib.Dec.{leb, ltb}
@@ -12,17 +12,15 @@ use lib.ListN.{length, take, drop, take-append-drop}
 use borrow.Author.Tests.{eqb-true, eq-eqb, leb-true, ltb-true, not-true}
 use Rattle.bit_ops.specs.Key.{ltKey}
 use Rattle.bit_ops.specs.Steps.{zeros}
-use Rattle.leaf_node.specs.Limits.{valueLimit, mergeBelow, PageSize}
+use Rattle.leaf_node.specs.Limits.{mergeBelow, PageSize}
 use Rattle.leaf_node.specs.Record.{Record, body, total}
 use Rattle.leaf_node.specs.Page.{count, run, recordsBetween}
-use Rattle.leaf_node.specs.Fits.{All, nil, cons, Light}
-use Rattle.leaf_node.specs.Fits as page-record
-use Rattle.leaf_node.proofs.RoundTrips.{records-of-a-good-page-are-proper}
+use Rattle.leaf_node.specs.Fits.{All, nil, cons}
 use Rattle.leaf_model.specs.Basics.{nonempty}
 use Rattle.leaf_model.specs.Work.{Turn, Open, Waiting, Done, Leaf, aboveLast, belowCutoff}
 use Rattle.leaf_model.specs.Claim.{Lt, Le, Rising, rise[], rise∷}
 use Rattle.leaf_model.proofs.Tests.{clash, and-left, and-right}
-use Rattle.leaf_model.proofs.Lists.{all-append, all-left, all-head, all-map}
+use Rattle.leaf_model.proofs.Lists.{all-left, all-head, all-map}
 use Rattle.leaf_model.proofs.Keys.{lt-of-test, le-of-test, le-of-not, rising-left}
 use Rattle.leaf_model.proofs.Separators.{links[]}
 use Rattle.leaf_model.proofs.Invariant.{Invariant, OpenFacts, WaitFacts, DoneFacts, AtTurn}
@@ -36,12 +34,12 @@ use Rattle.leaf_work.specs.Sound.{isFlag, anInsert, letsIn, pastAll, sou
 use Rattle.leaf_work.specs.Verdict.{keysVerdict, lentVerdict}
 use Rattle.leaf_work.proofs.Tests.{implied, first-zero, every-all, same-bytes-are-equal, key-is-there, no-key}
 use Rattle.leaf_work.proofs.Operations.{Op, Put, Keep, recordsOfOps, somePut}
-use Rattle.leaf_work.proofs.BasePages.{lent-page-is-good}
 use Rattle.leaf_work.proofs.Laid.{Laid, Kept, Keyed, Flags, turnOf, waiting-is-not-open, ignored, an-ignored-page-has-no-records, rest-is, pending-parts, seesWork}
 use Rattle.leaf_work.proofs.Soundness.{the-work-is-sound}
 use Rattle.leaf_work.proofs.SoundMeans.{Clauses}
-use Rattle.leaf_work.proofs.Decoding.{Shape, insert, keep, opOf, opsOf}
+use Rattle.leaf_work.proofs.Decoding.{opsOf}
 use Rattle.leaf_work.proofs.Readiness as accepted
+use Rattle.leaf_work.proofs.PendingRecords.{EntryKeyed, pending-keys-have-32-bytes, pending-values-are-light}
 
 -- a work with the page that it is lent, the leaves g given out before and the tally t
 pub record Canonical (size : ℕ) (w : Work) (list : List Entry) (store page : List ℕ) (g : List Leaf) (t : List Record) : Type 0 where
@@ -49,10 +47,6 @@ pub record Canonical (size : ℕ) (w : Work) (list : List Entry) (store page : L
   pub laid : Laid w list store (regarded w page) ops
   pub kept : Kept size w list store (regarded w page) page
   pub invariant : Invariant size (seesWork w list store (regarded w page)) g t
-
--- an entry whose key has 32 bytes
-abbrev pub EntryKeyed : Entry → Type 0
-EntryKeyed e = length (e .key) ≡ 32
 
 module _ (size : ℕ) (w : Work) (list : List Entry) (store page : List ℕ) (g : List Leaf) (t : List Record) (h : Canonical size w list store page g t) where
   pub canonical-work-is-sound : sound size w list store (regarded w page) ≡ true
@@ -151,19 +145,6 @@ module _ (size : ℕ) (q : PageSize size) (w : Work) (list : List Entry) (store 
   listed-are : listedOf w list store p ≡ recordsOfOps p ops
   listed-are = accepted.listed-are size w list store page z
 
-  -- ---- the base: a good page, or none of it
-
-  base-proper : (from to : ℕ) → from ≤ to → to ≤ count p → All page-record.Keyed (recordsBetween p from to) × All (Light size) (recordsBetween p from to)
-  unfolding recordsBetween run
-  base-proper from to o h = go (readsBase w) refl h
-    where
-      go : (b : Bool) → readsBase w ≡ b → to ≤ count (oneOf b page [])
-          → All page-record.Keyed (recordsBetween (oneOf b page []) from to) × All (Light size) (recordsBetween (oneOf b page []) from to)
-      go true e h =
-          let a = records-of-a-good-page-are-proper size page q (lent-page-is-good size page (w .latest) (cutoffOf w) (base-right e)) from to o h in
-          (a .fits .keys, a .light)
-      go false e h = let y : to - from ≡ 0 = omega (arith, an-ignored-page-has-no-records) in rw y (nil, nil)
-
   -- ---- the work record
 
   absent-last-two : (implies (not (isSet (w .over))) (sameBytes (w .overriding) (zeros 32)) && implies (not (isSet (w .taken))) (sameBytes (w .last) (zeros 32))) ≡ true
@@ -226,23 +207,6 @@ module _ (size : ℕ) (q : PageSize size) (w : Work) (list : List Entry) (store 
   rest-are : R ≡ recordsBetween p (w .low) (count p)
   rest-are = rest-is w list store p ops laid
 
-  ops-keyed : {es : List Entry} → All EntryKeyed es → All (Shape (w .low) p) es → All page-record.Keyed (recordsOfOps p (opsOf store es))
-  unfolding opOf
-  ops-keyed nil nil = nil
-  ops-keyed (cons k ks) (cons (insert from to key flag o) s) = cons k (ops-keyed ks s)
-  ops-keyed (cons k ks) (cons (keep from to l m) s) = all-append (base-proper from to (omega arith) (omega (arith, laid .low-in)) .0) (ops-keyed ks s)
-
-  key-lengths : All page-record.Keyed (L ++ R)
-  key-lengths =
-      let a : All page-record.Keyed L = rw listed-are (ops-keyed (all-take EntryKeyed (w .used) list entries) (accepted.shapes size w list store page z)) in
-      let b : All page-record.Keyed R = rw rest-are (base-proper (w .low) (count p) (laid .low-in) (omega arith) .0) in
-      all-append a b
-
-  light : All (Light size) (L ++ R)
-  light =
-      all-append (all-map (λ r e. leb-true (length (r .value)) (valueLimit size) e) (every-all _ L (c .listed-light)))
-      (rw rest-are (base-proper (w .low) (count p) (laid .low-in) (omega arith) .1))
-
   override-has-records : (s : List ℕ) → overrideOf w ≡ some s → nonempty L ≡ true
   override-has-records s e = rw listed-are (put-is-record p ops (laid .override-has-insert (key-is-there (isSet (w .over)) (w .overriding) s e .0)))
 
@@ -304,8 +268,8 @@ module _ (size : ℕ) (q : PageSize size) (w : Work) (list : List Entry) (store 
       override-has-records = override-has-records;
       above-separator = all-map (λ r h. le-of-not (separatorOf w) (r .key) (and-left (not (ltKey (r .key) (separatorOf w))) _ h)) bounds;
       below-cutoff = all-map (λ r h. and-right (not (ltKey (r .key) (separatorOf w))) (belowCutoff (cutoffOf w) (r .key)) h) bounds;
-      light = light;
-      key-lengths = all-map (λ r h. eq-eqb (length (r .key)) 32 h) key-lengths;
+      light = pending-values-are-light size q w list store page z;
+      key-lengths = all-map (λ r h. eq-eqb (length (r .key)) 32 h) (pending-keys-have-32-bytes size q w list store page z (all-take EntryKeyed (w .used) list entries));
       floor-above-separator = le-of-not (separatorOf w) (w .floor) (and-left (not (ltKey (w .floor) (separatorOf w))) _ (c .floor-above));
       floor-above-latest = le-of-not (w .latest) (w .floor) (and-right (not (ltKey (w .floor) (separatorOf w))) (not (ltKey (w .floor) (w .latest))) (c .floor-above));
       latest-below-cutoff = latest-below (isSet (w .cut)) refl;

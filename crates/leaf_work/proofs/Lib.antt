@@ -8,6 +8,7 @@ pub mod BasePages
 pub mod SoundMeans
 pub mod Decoding
 pub mod Readiness
+pub mod PendingRecords
 pub mod Canonical
 pub mod Examples
 pub mod Records

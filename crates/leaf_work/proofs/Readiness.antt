@@ -83,7 +83,7 @@ module _ (size : ℕ) (w : Work) (list : List Entry) (store page : List ℕ) (z 
   filled-in : w .filled ≤ length store
   filled-in = leb-true _ _ (and-left (leb (w .filled) (length store)) _ (c .store-right))
 
-  in-place : placed (w .filled) 0 es ≡ true
+  pub in-place : placed (w .filled) 0 es ≡ true
   in-place = and-left (placed (w .filled) 0 es) _ values-right
 
   blank-bytes : drop (w .filled) store ≡ zeros (length (drop (w .filled) store))
