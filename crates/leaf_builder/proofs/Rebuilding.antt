@@ -26,7 +26,7 @@ use Rattle.leaf_builder.specs.Rebuild.{rebuildVerdict, rebuildLeaves}
 use Rattle.leaf_builder.proofs.Pushing.{length-started, length-pushed, pushes-join, pushing-all-records-builds-the-page}
 
 -- two parts of a range
-records-join : (p : List ℕ) (from mid to : ℕ) → from ≤ mid → mid ≤ to → recordsBetween p from to ≡ recordsBetween p from mid ++ recordsBetween p mid to
+pub records-join : (p : List ℕ) (from mid to : ℕ) → from ≤ mid → mid ≤ to → recordsBetween p from to ≡ recordsBetween p from mid ++ recordsBetween p mid to
 unfolding recordsBetween
 records-join p from mid to h k =
     let a : to - from ≡ mid - from + (to - mid) = omega arith in

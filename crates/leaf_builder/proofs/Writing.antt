@@ -105,7 +105,7 @@ records-more p from i h =
     let b : from + (i - from) ≡ i = omega arith in
     rw a (run-append (i - from) 1 from (recordAt p) ∙ rw (b, run-one i (recordAt p)))
 
-records-none : (p : List ℕ) (i : ℕ) → recordsBetween p i i ≡ []
+pub records-none : (p : List ℕ) (i : ℕ) → recordsBetween p i i ≡ []
 unfolding recordsBetween run
 records-none p i = ap (λ (m : ℕ). run m i (recordAt p)) (sub-self i)
 
@@ -117,7 +117,7 @@ pointers-none : (at : ℕ) → pointers at [] ≡ []
 unfolding pointers
 pointers-none at = refl
 
-total-one : (r : Record) → total (r ∷ []) ≡ length (r .value)
+pub total-one : (r : Record) → total (r ∷ []) ≡ length (r .value)
 unfolding total
 total-one r = omega arith
 

@@ -25,7 +25,7 @@ ghost use Rattle.leaf_builder.specs.Rebuild.{rebuildVerdict, rebuildLeav
 // ---- writing
 
 // Zeros from index `from` up to `to`.
-fn clear_between(d: &mut [u8], from: usize, to: usize)
+pub fn clear_between(d: &mut [u8], from: usize, to: usize)
     requires { ⌜ (from ≤ to) × (to ≤ length (now d)) ⌝ }
     ensures { λ _. ⌜ now (d .exit) ≡ put (now (d .entry)) from (zeros (to - from)) ⌝ }
 {

@@ -18,7 +18,7 @@ use Rattle.leaf_model.proofs.Lists.{all-head, all-tail, all-map, all-ri
 use Rattle.leaf_model.proofs.Cutting.{cut-over-reaching, cut-over, cut-reaching, cut-further, Light, limits-agree}
 
 module _ (limit target : ℕ) where
-  abbrev Fits : Record → Type 0
+  abbrev pub Fits : Record → Type 0
   Fits r = cost r ≤ limit
 
   -- ---- induction along `takeUntil`: a case for each outcome, with the tests as orders
@@ -78,11 +78,11 @@ module _ (limit target : ℕ) where
           rw (cut-further limit target [] 0 r rs (omega arith) (omega arith), zero-add (cost r)) (cut-over limit target leaf size r rs h k)
 
   -- what `cut` makes of a leaf that was taken off, or of none
-  abbrev continued : List Record → List Record → Option Taken → Cut
+  abbrev pub continued : List Record → List Record → Option Taken → Cut
   continued leaf rs none = nothingCut (leaf ++ rs)
   continued leaf rs (some t) = withLeaf (t .leaf) (cut limit target [] 0 (t .remaining))
 
-  first-leaf : (leaf rs : List Record) → All Fits rs → cut limit target leaf (body leaf) rs ≡ continued leaf rs (takeUntil limit target leaf rs)
+  pub first-leaf : (leaf rs : List Record) → All Fits rs → cut limit target leaf (body leaf) rs ≡ continued leaf rs (takeUntil limit target leaf rs)
   first-leaf =
       take-induction (λ leaf rs o. All Fits rs → cut limit target leaf (body leaf) rs ≡ continued leaf rs o)
       (λ leaf a. unfold cut in ap nothingCut (sym (append-nil leaf)))

@@ -193,7 +193,7 @@ module _ (size : ℕ) (p : PageSize size) where
   leaf-sized l b = record { some-record = has-record l (omega (arith, b .enough, limits-agree size p .some-body)); enough = b .enough; fits = b .fits }
 
   -- a target lies between the merge threshold and the body limit
-  target-enough : (b t : ℕ) → targetOf size b ≡ some t → mergeBelow size ≤ t
+  pub target-enough : (b t : ℕ) → targetOf size b ≡ some t → mergeBelow size ≤ t
   target-enough b =
       let s = limits-agree size p in
       target-cases size b (λ o. (t : ℕ) → o ≡ some t → mergeBelow size ≤ t)
@@ -201,7 +201,7 @@ module _ (size : ℕ) (p : PageSize size) where
       (λ h k t e. rw (← Option·some-injective _ _ e) (s .half-enough b k))
       (λ h t e. none-is-not-some e)
 
-  target-fits : (b t : ℕ) → targetOf size b ≡ some t → t ≤ bodyLimit size
+  pub target-fits : (b t : ℕ) → targetOf size b ≡ some t → t ≤ bodyLimit size
   target-fits b =
       let s = limits-agree size p in
       target-cases size b (λ o. (t : ℕ) → o ≡ some t → t ≤ bodyLimit size)

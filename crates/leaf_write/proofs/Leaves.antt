@@ -86,8 +86,8 @@ module _ (rows keys : List (List ℕ)) (store page : List ℕ) (s : Span) (h : K
     abbrev row : List ℕ
     row = getD rows (at .entry) []
 
-    entry-there : EntryThere store page row (at .skip)
-    entry-there =
+    pub the-entry-of-a-cursor-can-be-read : EntryThere store page (getD rows (at .entry) []) (at .skip)
+    the-entry-of-a-cursor-can-be-read =
         let e = h .entries (at .entry) l in
         let k = c .skip-in l in
         record {
@@ -121,7 +121,7 @@ module _ (rows keys : List (List ℕ)) (store page : List ℕ) (s : Span) (h : K
   a-cursor-has-its-part m = record {
     row-in = λ l. omega (arith, h .used-in);
     key-in = λ l. omega (arith, h .used-in, h .as-many);
-    entry = entry-there;
+    entry = the-entry-of-a-cursor-can-be-read;
     rest = λ l. record { order = c .rest-in (rest-at l); there = omega (arith, h .rest .counted); laid = laid (omega (arith, m, rest-many l)) };
   }
 
