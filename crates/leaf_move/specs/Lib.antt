@@ -1,0 +1,2 @@
+-- What moving within a list makes of it.
+pub mod Moving

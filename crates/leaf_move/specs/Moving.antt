@@ -1,0 +1,20 @@
+-- What moving within a list makes of it.
+use mathlib.Core.List.{List, _++_}
+use Prim.Native.Nat.{ℕ, _-_}
+use lib.ListN.{length, take, drop, replicate}
+
+-- new elements in the places right below index t
+unfoldable pub under : {A : Type 0} → List A → ℕ → List A → List A
+under xs t new = take (t - length new) xs ++ new ++ drop t xs
+
+-- the last `count` elements moved to the start
+unfoldable pub lowered : {A : Type 0} → List A → ℕ → List A
+lowered xs count = drop (length xs - count) xs ++ drop count xs
+
+-- z from index `from` on
+unfoldable pub cleared : {A : Type 0} → A → List A → ℕ → List A
+cleared z xs from = take from xs ++ replicate (length xs - from) z
+
+-- the last `count` elements at the start, and z behind them
+unfoldable pub settled : {A : Type 0} → A → List A → ℕ → List A
+settled z xs count = drop (length xs - count) xs ++ replicate (length xs - count) z
