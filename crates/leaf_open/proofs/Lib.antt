@@ -1,4 +1,3 @@
 -- Laws on plain values, for the functions' proofs.
-pub mod Clearing
 pub mod Openings
 pub mod Again

@@ -4,6 +4,9 @@ use bit_ops::less;
 use leaf_base::base_verdict;
 use leaf_base::room_right;
 use leaf_check::is_sound;
+use leaf_move::settle_bytes;
+use leaf_move::settle_keys;
+use leaf_move::settle_rows;
 use leaf_node::PAGE_SIZE;
 use leaf_node::count_of;
 use leaf_node::size_between;
@@ -17,15 +20,14 @@ use refusal::STORE_FULL;
 use refusal::UNSOUND;
 ghost use mathlib.Core.Path.{_≡_};
 ghost use Prim.Native.Nat.{_≤_};
-ghost use lib.ListN.{length, replicate};
+ghost use lib.ListN.{length};
 ghost use Rattle.bit_ops.specs.Steps.{zeros};
 ghost use Rattle.leaf_node.specs.Limits.{PageSize};
 ghost use Rattle.leaf_node.specs.Page.{count};
 ghost use Rattle.leaf_node.specs.Steps.{Laid};
 ghost use Rattle.leaf_model.specs.Work.{zeroKey};
 ghost use Rattle.leaf_work.specs.Tests.{oneOf, bit, keyIf};
-ghost use Rattle.leaf_work.specs.Lent.{blank};
-ghost use Rattle.leaf_work.specs.Flat.{listOf, rowOf, rowsAfter, keysAfter};
+ghost use Rattle.leaf_work.specs.Flat.{listOf, rowsAfter, keysAfter};
 ghost use Rattle.leaf_work.specs.Verdict.{openVerdict, nextBaseVerdict, removeVerdict};
 ghost use Rattle.leaf_work.specs.Outcome.{replyNumber, freshWork, Opened, openOf, Changed, changedBy, nextBaseWork, nextBaseOf, removeWork, removeCutoffOf};
 ghost use Rattle.leaf_open.specs.Opening.{openingOf, openBaseVerdict};
@@ -130,36 +132,6 @@ fn fresh_work(based: bool, separator: &[u8; 32], cut: bool, cutoff: &[u8; 32]) -
     }
 }
 
-fn clear_rows(rows: &mut [[usize; 5]])
-    ensures { λ _. ⌜ now (rows .exit) ≡ replicate (length (now (rows .entry))) (rowOf blank) ⌝ }
-{
-    let mut i = 0;
-    while i < rows.len() {
-        rows[i] = [0usize; 5];
-        i += 1;
-    }
-}
-
-fn clear_keys(keys: &mut [[u8; 32]])
-    ensures { λ _. ⌜ now (keys .exit) ≡ replicate (length (now (keys .entry))) zeroKey ⌝ }
-{
-    let mut i = 0;
-    while i < keys.len() {
-        keys[i] = [0u8; 32];
-        i += 1;
-    }
-}
-
-fn clear_store(store: &mut [u8])
-    ensures { λ _. ⌜ now (store .exit) ≡ zeros (length (now (store .entry))) ⌝ }
-{
-    let mut i = 0;
-    while i < store.len() {
-        store[i] = 0;
-        i += 1;
-    }
-}
-
 // Opening: list and store are filled with zeros.
 pub fn open(
     based: bool,
@@ -191,9 +163,9 @@ pub fn open(
             work: work,
         };
     }
-    clear_rows(rows);
-    clear_keys(keys);
-    clear_store(store);
+    settle_rows(rows, 0);
+    settle_keys(keys, 0);
+    settle_bytes(store, 0);
     Updated {
         refusal: 0,
         work: fresh_work(based, separator, cut, cutoff),

@@ -1,5 +1,7 @@
 -- `leaf_open::open` meets its contract.
 -- Assumes nothing.
+use mathlib.Core.Path.{_∙_}
+use Rattle.leaf_move.proofs.Settling.{settling-none-clears-all}
 use Rattle.leaf_open.proofs.Openings.{a-refused-opening-changes-nothing, an-accepted-opening-clears-all}
 use borrow.Author.Needs.{needs}
 use Rattle.leaf_open.proofs.open.Statement.{statement}
@@ -20,14 +22,14 @@ same-length-3 c = search needs
 returns : tie.Need-returns
 returns c = a-refused-opening-changes-nothing _ _ _ _ _ _ _ (c .before .open-verdict .ensures) (c .if1 .taken)
 
-clear-rows-requires : tie.Need-clear-rows-requires
-clear-rows-requires c κs = search needs
+settle-rows-requires : tie.Need-settle-rows-requires
+settle-rows-requires c κs = search needs
 
-clear-keys-requires : tie.Need-clear-keys-requires
-clear-keys-requires c κs = search needs
+settle-keys-requires : tie.Need-settle-keys-requires
+settle-keys-requires c κs = search needs
 
-clear-store-requires : tie.Need-clear-store-requires
-clear-store-requires c κs = search needs
+settle-bytes-requires : tie.Need-settle-bytes-requires
+settle-bytes-requires c κs = search needs
 
 fresh-work-requires : tie.Need-fresh-work-requires
 fresh-work-requires c κs = search needs
@@ -50,7 +52,8 @@ returns-2 c =
     let args = tested .before .before .before .before .before .before .before .args in
     an-accepted-opening-clears-all _ _ _ _ _ _ _ (args .rows .now) (args .keys .now) (args .store .now) _
     (tested .before .open-verdict .ensures) (tested .if1 .left) _ _ _ _
-    (c .fresh-work .ensures) (at-rows .clear-rows .ensures) (at-keys .clear-keys .ensures) (at-store .clear-store .ensures)
+    (c .fresh-work .ensures) (at-rows .settle-rows .ensures ∙ settling-none-clears-all _ (args .rows .now)) (at-keys .settle-keys .ensures ∙ settling-none-clears-all _ (args .keys .now))
+    (at-store .settle-bytes .ensures ∙ settling-none-clears-all _ (args .store .now))
 
 pub open-spec : {M : Type 1} → statement M
 open-spec =
@@ -61,9 +64,9 @@ open-spec =
     same-length-2
     same-length-3
     returns
-    clear-rows-requires
-    clear-keys-requires
-    clear-store-requires
+    settle-rows-requires
+    settle-keys-requires
+    settle-bytes-requires
     fresh-work-requires
     same-length-4
     same-length-5
