@@ -12,6 +12,7 @@ use Rattle.leaf_node.specs.Build.{put}
 use Rattle.leaf_work.specs.declared.Work.{Work}
 use Rattle.leaf_work.specs.declared.Entry.{Entry}
 use Rattle.leaf_work.specs.Tests.{bit}
+use Rattle.leaf_work.specs.Lent.{insertAt}
 use Rattle.leaf_work.specs.Flat.{rowOf}
 use Rattle.leaf_work.specs.TakingUp.{valueOf}
 use Rattle.leaf_work.specs.Outcome as outcome
@@ -52,16 +53,17 @@ module _ (rows keys : List (List ℕ)) (at from : ℕ) (k : List ℕ) (change : 
     pub an-insert-has-a-row : at < length rows
     an-insert-has-a-row = let s : at + 1 ≤ length rows = rw e at r in omega arith
 
-    pub an-insert-has-a-key : length rows ≡ length keys → at < length keys
-    an-insert-has-a-key l = omega (arith, an-insert-has-a-row)
-
-    pub an-insert-is-listed : length rows ≡ length keys → (b : ℕ) → b ≡ bit flag
-        → (at + 1 ≡ at + length (insertEntries from k (changeOf change value)))
-        × (set rows at (1 ∷ b ∷ from ∷ (from + length value) ∷ 0 ∷ []) ≡ spliced rows at (rowsOf (insertEntries from k (changeOf change value))))
-        × (set keys at k ≡ spliced keys at (keysOf (insertEntries from k (changeOf change value))))
+    pub an-insert-is-listed : length rows ≡ length keys → (rows′ keys′ : List (List ℕ))
+        → rows′ ≡ set rows at (rowOf (insertAt from (from + length value) k (bit flag))) → keys′ ≡ set keys at k
+        → (at + 1 ≡ at + length (insertEntries from k (changeOf change value))) × (rows′ ≡ spliced rows at (rowsOf (insertEntries from k (changeOf change value))))
+        × (keys′ ≡ spliced keys at (keysOf (insertEntries from k (changeOf change value))))
     unfolding insertEntries
-    an-insert-is-listed l b f =
-        rw (e, f) (refl, spliced-one rows at (1 ∷ bit flag ∷ from ∷ (from + length value) ∷ 0 ∷ []) an-insert-has-a-row, spliced-one keys at k (an-insert-has-a-key l))
+    an-insert-is-listed l rows′ keys′ p q =
+        rw (e, p, q) (
+          refl,
+          spliced-one rows at (rowOf (insertAt from (from + length value) k (bit flag))) an-insert-has-a-row,
+          spliced-one keys at k (omega (arith, an-insert-has-a-row)),
+        )
 
 -- first `chunk`, then `insert`
 module _ (rows keys : List (List ℕ)) (at : ℕ) (chunk insert : List Entry) (h : at ≤ length rows) (l : length rows ≡ length keys) (next : ℕ) (e : next ≡ at + length chunk) where

@@ -4,6 +4,7 @@ use leaf_check::lent_verdict;
 use leaf_check::lets_in;
 use leaf_check::records_in;
 use leaf_check::regard;
+use leaf_move::bit_of;
 use leaf_node::PAGE_SIZE;
 use leaf_node::Place;
 use leaf_node::cell_at;
@@ -69,15 +70,6 @@ pub struct Admitted {
 }
 
 // ---- the change
-
-fn bit_of(flag: bool) -> usize
-    ensures { λ r. ⌜ r ≡ bit flag ⌝ }
-{
-    if flag {
-        return 1;
-    }
-    0
-}
 
 // How many records a change lists.
 fn added(change: Change) -> usize
@@ -266,10 +258,7 @@ fn put_insert(
     match change {
         Change::Delete => at,
         Change::Put(flag) => {
-            let row = [1usize, bit_of(flag), from, from + value.len(), 0];
-            let new = *key;
-            rows[at] = row;
-            keys[at] = new;
+            leaf_move::put_insert(rows, keys, at, from, from + value.len(), key, flag);
             at + 1
         }
     }

@@ -1,6 +1,6 @@
 -- `leaf_ingest::put_insert` meets its contract.
 -- Assumes nothing.
-use Rattle.leaf_ingest.proofs.Writing.{a-deletion-lists-nothing, an-insert-has-a-row, an-insert-has-a-key, an-insert-is-listed}
+use Rattle.leaf_ingest.proofs.Writing.{a-deletion-lists-nothing, an-insert-has-a-row, an-insert-is-listed}
 use borrow.Author.Needs.{needs}
 use Rattle.leaf_ingest.proofs.put_insert.Statement.{statement}
 use Rattle.leaf_ingest.proofs.put_insert.Tie as tie
@@ -11,23 +11,11 @@ enum-told c = search needs
 enum-known-change : tie.Need-enum-known-change
 enum-known-change c = search needs
 
-bit-of-requires : tie.Need-bit-of-requires
-bit-of-requires c κs = search needs
+add-put-insert : tie.Need-add-put-insert
+add-put-insert c = search needs
 
-add-new : tie.Need-add-new
-add-new c = search needs
-
-mul-row : tie.Need-mul-row
-mul-row c = search needs
-
-slice-set-from-row : tie.Need-slice-set-from-row
-slice-set-from-row c = search (an-insert-has-a-row, needs)
-
-mul-new : tie.Need-mul-new
-mul-new c = search needs
-
-slice-set-from-new : tie.Need-slice-set-from-new
-slice-set-from-new c = search (an-insert-has-a-key, needs)
+put-insert-requires : tie.Need-put-insert-requires
+put-insert-requires c κs = (search (an-insert-has-a-row, needs), search needs)
 
 add-result : tie.Need-add-result
 add-result c = search needs
@@ -45,9 +33,12 @@ same-length-2 c = search needs
 
 returns-2 : tie.Need-returns-2
 returns-2 c =
-    let start = c .before .before .before .before .before .before in
+    let put = c .before .before in
+    let told = put .before .before .before .before in
+    let start = told .before .before .before in
     let args = start .args in
-    an-insert-is-listed (args .rows .now) (args .keys .now) (args .at) (args .from) (args .key .now) (args .change) (args .value .now) _ (c .before .before .before .change .given .1) (start .pre .0) (start .pre .1) _ (c .before .bit-of .ensures)
+    an-insert-is-listed (args .rows .now) (args .keys .now) (args .at) (args .from) (args .key .now) (args .change) (args .value .now) _ (told .change .given .1) (start .pre .0) (start .pre .1)
+    _ _ (put .put-insert .ensures .0) (put .put-insert .ensures .1)
 
 pub put-insert-spec : {M : Type 1} → statement M
 put-insert-spec =
@@ -55,12 +46,8 @@ put-insert-spec =
     (tie.spec
     enum-told
     enum-known-change
-    bit-of-requires
-    add-new
-    mul-row
-    slice-set-from-row
-    mul-new
-    slice-set-from-new
+    add-put-insert
+    put-insert-requires
     add-result
     returns
     same-length
