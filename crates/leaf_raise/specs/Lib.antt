@@ -1,0 +1,2 @@
+-- Records raised to the end of what is lent.
+pub mod Raising
