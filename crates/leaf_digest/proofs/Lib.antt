@@ -1,2 +1,6 @@
--- Laws on plain values, for the functions' proofs.
+-- The laws of a digest.
 pub mod Numbers
+pub mod Keys
+pub mod After
+pub mod Digesting
+pub mod Calls

@@ -1,2 +1,3 @@
 -- What the steps of a digest require and do.
+pub mod Reply
 pub mod Steps

@@ -1,11 +1,14 @@
-// The digest of a work.
-// Ported from nomt/src/beatree/ops/update/leaf_updater.rs of thrumdev/nomt: `digest`, `try_build_leaves` and `prepare_merge_ops`.
+// The digest of a work: its number, its leaves, and what it leaves behind.
+// Ported from nomt/src/beatree/ops/update/leaf_updater.rs of thrumdev/nomt: `LeafUpdater::digest`.
 use leaf_check::lent_verdict;
 use leaf_check::records_in;
 use leaf_check::regard;
 use leaf_cut::Gauge;
 use leaf_cut::has_pages;
 use leaf_cut::pending_gauge;
+use leaf_give::give_leaves;
+use leaf_merge::prepare_merge_ops;
+use leaf_node::PAGE_SIZE;
 use leaf_work::Work;
 use refusal::OUT_OF_TURN;
 use refusal::SHORT_AREA;
@@ -13,15 +16,35 @@ ghost use mathlib.Core.Path.{_≡_};
 ghost use mathlib.Core.Bool.{_&&_};
 ghost use Prim.Native.Nat.{_*_, _≤_};
 ghost use lib.Dec.{leb};
+ghost use lib.ListN.{length};
 ghost use Rattle.leaf_node.specs.Limits.{PageSize, pagesAsked};
 ghost use Rattle.leaf_node.specs.Page.{count};
+ghost use Rattle.leaf_node.specs.Fits.{All};
 ghost use Rattle.leaf_work.specs.Lent.{regarded};
-ghost use Rattle.leaf_work.specs.Flat.{listOf};
+ghost use Rattle.leaf_work.specs.Flat.{listOf, rowsAfter, keysAfter};
 ghost use Rattle.leaf_work.specs.Pending.{pendingOf};
 ghost use Rattle.leaf_work.specs.Verdict.{lentVerdict, digestVerdict};
 ghost use Rattle.leaf_check.specs.Settled.{Regardable};
 ghost use Rattle.leaf_cut.specs.Steps.{Modest};
-ghost use Rattle.leaf_digest.specs.Steps.{bodyWith};
+ghost use Rattle.leaf_work.specs.Digest as outcome;
+ghost use Rattle.leaf_give.specs.Giving.{planned};
+ghost use Rattle.leaf_digest.specs.Reply.{replyOf, cutoffBeside};
+ghost use Rattle.leaf_digest.specs.Steps.{bodyWith, workWith, Digests, Leaves};
+
+// A refusal, the leaves of a digest that is done, or those of one that waits for a merge.
+pub enum Gave {
+    Refused(u8),
+    Finished(usize),
+    Merge(usize),
+}
+
+// The reply, with the cutoff that a merge request names, else zeros; and the work record after the call: of a refused call the one that it
+// was given.
+pub struct Digested {
+    pub reply: Gave,
+    pub cutoff: [u8; 32],
+    pub work: Work,
+}
 
 // ---- the number
 
@@ -77,4 +100,119 @@ pub fn digest_verdict(
         return SHORT_AREA;
     }
     0
+}
+
+// ---- what a digest leaves behind
+
+// The work record after a digest that keeps `left`, whose separator is given.
+fn digest_work(work: Work, left: Gauge, separator: [u8; 32]) -> Work
+    ensures { λ r. ⌜ r ≡ workWith work left separator ⌝ }
+{
+    let mut next = work;
+    next.low = 0;
+    next.used = left.count;
+    next.filled = left.bytes;
+    next.count = left.count;
+    next.bytes = left.bytes;
+    if left.count == 0 {
+        next.turn = 3;
+        next.over = 0;
+        next.overriding = [0u8; 32];
+        return next;
+    }
+    next.turn = 2;
+    next.over = 1;
+    next.overriding = separator;
+    let cutoff = work.cutoff;
+    if work.cut != 0 {
+        next.floor = cutoff;
+    }
+    next
+}
+
+// A digest of a work whose lent things earn no refusal and whose leaves have room. `page` is as the work regards it and has n records.
+fn digest_ready(
+    work: Work,
+    rows: &mut [[usize; 5]],
+    keys: &mut [[u8; 32]],
+    store: &mut [u8],
+    page: &[u8],
+    n: usize,
+    area: &mut [u8],
+    tickets: &mut [u8],
+    size: usize,
+) -> Digested
+    requires { ⌜ (Digests size work (now rows) (now keys) (now store) (now page) (now area) (now tickets)) × (n ≡ count (now page)) ⌝ }
+    ensures { λ r. ⌜ Leaves (outcome.digestDone size work (listOf (now (rows .entry)) (now (keys .entry))) (now (store .entry)) (now (area .entry)) (now (tickets .entry)) (planned size work (now (rows .entry)) (now (keys .entry)) (now (store .entry)) (now (page .entry)))) r (now (rows .exit)) (now (keys .exit)) (now (store .exit)) (now (area .exit)) (now (tickets .exit)) ⌝ }
+{
+    let p = give_leaves(work, rows, keys, store, page, n, area, tickets, size);
+    let left = p.left;
+    prepare_merge_ops(work, rows, keys, store, page, n, p.at, left);
+    let separator = p.separator;
+    let cutoff = work.cutoff;
+    let next = digest_work(work, left, separator);
+    if left.count == 0 {
+        return Digested {
+            reply: Gave::Finished(p.leaves),
+            cutoff: [0u8; 32],
+            work: next,
+        };
+    }
+    Digested {
+        reply: Gave::Merge(p.leaves),
+        cutoff: cutoff,
+        work: next,
+    }
+}
+
+// ---- the call
+
+fn length_of(bytes: &[u8]) -> usize
+    ensures { λ r. ⌜ r ≡ length (now (bytes .entry)) ⌝ }
+{
+    bytes.len()
+}
+
+fn key_length(key: &[u8; 32]) -> usize
+    ensures { λ r. ⌜ (r ≡ 32) × (length (now (key .entry)) ≡ 32) ⌝ }
+{
+    length_of(key)
+}
+
+// That a key of the list has 32 bytes is known of one that was read. The loop finds out nothing else, and the compiler drops it.
+fn read_keys(keys: &[[u8; 32]])
+    ensures { λ _. ⌜ All (λ k. length k ≡ 32) (now (keys .entry)) ⌝ }
+{
+    let mut i = 0;
+    while i < keys.len() {
+        let key = keys[i];
+        key_length(&key);
+        i += 1;
+    }
+}
+
+// Digest: takes up the rest of the base and gives leaves, each as a page of the area, with its ticket.
+pub fn digest(
+    work: Work,
+    rows: &mut [[usize; 5]],
+    keys: &mut [[u8; 32]],
+    store: &mut [u8],
+    page: &[u8],
+    area: &mut [u8],
+    tickets: &mut [u8],
+) -> Digested
+    ensures { λ r. ⌜ (let o : outcome.Digested = outcome.digestOf 4096 work (listOf (now (rows .entry)) (now (keys .entry))) (now (store .entry)) (now (page .entry)) (now (area .entry)) (now (tickets .entry)) in (replyOf (r .reply) (r .cutoff) ≡ o .reply) × (r .cutoff ≡ cutoffBeside (o .reply)) × (r .work ≡ o .work) × (now (rows .exit) ≡ rowsAfter (outcome.digestNumber (o .reply)) (o .list) (now (rows .entry))) × (now (keys .exit) ≡ keysAfter (outcome.digestNumber (o .reply)) (o .list) (now (keys .entry))) × (now (store .exit) ≡ o .store) × (now (area .exit) ≡ o .area) × (now (tickets .exit) ≡ o .tickets)) ⌝ }
+{
+    let number = digest_verdict(work, rows, keys, store, page, area, tickets, PAGE_SIZE);
+    if number != 0 {
+        return Digested {
+            reply: Gave::Refused(number),
+            cutoff: [0u8; 32],
+            work: work,
+        };
+    }
+    read_keys(keys);
+    let base = regard(work, page);
+    let n = records_in(base, PAGE_SIZE);
+    digest_ready(work, rows, keys, store, base, n, area, tickets, PAGE_SIZE)
 }

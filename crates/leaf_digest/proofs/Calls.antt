@@ -1,0 +1,135 @@
+-- The call: what an accepted digest may rely on, and what a digest leaves, accepted or refused. Assumes nothing.
+use mathlib.Core.Path.{_≡_, refl, sym, ap, _∙_}
+use mathlib.Core.Bool.{true}
+use mathlib.Core.List.{List, [], _∷_}
+use Prim.Native.Nat.{ℕ, _*_}
+use lib.Dec.{leb}
+use lib.ListN.{length, take, drop, take-append-drop}
+use borrow.Author.Tests.{eq-eqb, ne-eqb, leb-true}
+use Rattle.leaf_node.specs.Limits.{PageSize, pagesAsked}
+use Rattle.leaf_node.specs.Record.{Record, body}
+use Rattle.leaf_node.specs.Fits.{All, nil, cons}
+use Rattle.leaf_model.specs.Work.{zeroKey, plan}
+use Rattle.leaf_model.proofs.Tests.{and-left, and-right}
+use Rattle.leaf_model.proofs.Lists.{all-left}
+use Rattle.leaf_work.specs.declared.Work.{Work}
+use Rattle.leaf_work.specs.declared.Entry.{Entry}
+use Rattle.leaf_work.specs.Lent.{isOpen, cutoffOf, regarded}
+use Rattle.leaf_work.specs.Flat.{listOf, entriesOf, rowsAfter, keysAfter}
+use Rattle.leaf_work.specs.Pending.{pendingOf}
+use Rattle.leaf_work.specs.Ready.{Ready}
+use Rattle.leaf_work.specs.Verdict.{lentVerdict, hasPages, digestVerdict}
+use Rattle.leaf_work.specs.Digest as outcome
+use Rattle.leaf_work.proofs.Tests.{passed, first-passed}
+use Rattle.leaf_work.proofs.Laid.{pending-parts}
+use Rattle.leaf_work.proofs.FlatList.{rows-and-keys-agree}
+use Rattle.leaf_work.proofs.Readiness as readiness
+use Rattle.leaf_work.proofs.PendingRecords.{EntryKeyed, pending-keys-have-32-bytes, pending-values-are-light}
+use Rattle.leaf_check.specs.Settled.{Regardable}
+use Rattle.leaf_check.proofs.Verdicts.{the-regarded-is-good}
+use Rattle.leaf_give.specs.Giving.{Gives, planned}
+use Rattle.leaf_digest.specs.declared.Digested.{Digested}
+use Rattle.leaf_digest.specs.Reply.{replyOf, cutoffBeside}
+use Rattle.leaf_digest.specs.Steps.{Digests, Leaves}
+use Rattle.leaf_digest.proofs.Numbers.{the-pending-records-are-counted, the-pending-values-are-summed}
+use Rattle.leaf_digest.proofs.Keys.{IsKey}
+
+entries-keyed : (rows : List (List ℕ)) {keys : List (List ℕ)} → All IsKey keys → All EntryKeyed (entriesOf rows keys)
+entries-keyed [] a = nil
+entries-keyed (r ∷ rs) nil = nil
+entries-keyed (r ∷ rs) (cons k a) = cons k (entries-keyed rs a)
+
+module _ (size : ℕ) (w : Work) (rows keys : List (List ℕ)) (store page area tickets : List ℕ) (v : ℕ)
+    (e : v ≡ digestVerdict size w (pendingOf w (listOf rows keys) store (regarded w page)) area tickets (lentVerdict size w (listOf rows keys) store page)) where
+  abbrev list : List Entry
+  list = listOf rows keys
+
+  abbrev pending : List Record
+  pending = pendingOf w list store (regarded w page)
+
+  abbrev o : outcome.Digested
+  o = outcome.digestOf size w list store page area tickets
+
+  abbrev number : ℕ
+  number = digestVerdict size w pending area tickets (lentVerdict size w list store page)
+
+  -- ---- refused
+
+  refused : (v ≡ 0 → ⊥) → o ≡ record { reply = outcome.DigestRefused number; work = w; list = list; store = store; area = area; tickets = tickets }
+  unfolding outcome.digestOn
+  refused h = let k : number ≡ 0 → ⊥ = λ z. h (e ∙ z) in rw (ne-eqb number 0 k, outcome.digestOn)
+
+  pub a-refused-digest-changes-nothing : (v ≡ 0 → ⊥)
+      → (let o : outcome.Digested = outcome.digestOf size w (listOf rows keys) store page area tickets in
+      (outcome.DigestRefused v ≡ o .reply) × (zeroKey ≡ cutoffBeside (o .reply)) × (w ≡ o .work) × (rows ≡ rowsAfter (outcome.digestNumber (o .reply)) (o .list) rows)
+      × (keys ≡ keysAfter (outcome.digestNumber (o .reply)) (o .list) keys) × (store ≡ o .store) × (area ≡ o .area) × (tickets ≡ o .tickets))
+  a-refused-digest-changes-nothing h =
+      let k : number ≡ 0 → ⊥ = λ z. h (e ∙ z) in
+      rw (refused h, rowsAfter, keysAfter, ne-eqb number 0 k) (ap outcome.DigestRefused e, refl, refl, refl, refl, refl, refl, refl)
+
+  -- ---- accepted
+
+  module _ (z : v ≡ 0) where
+    none : number ≡ 0
+    none = sym e ∙ z
+
+    pub lent-earns-nothing : lentVerdict size w (listOf rows keys) store page ≡ 0
+    unfolding digestVerdict
+    lent-earns-nothing = first-passed (lentVerdict size w list store page) _ none .0
+
+    has-pages : hasPages size pending area tickets ≡ true
+    unfolding digestVerdict
+    has-pages = passed 16 (hasPages size pending area tickets) 0 (passed 8 (isOpen w) _ (first-passed (lentVerdict size w list store page) _ none .1) .1) .0
+
+    abbrev asked : ℕ
+    asked = pagesAsked size (body pending)
+
+    pub the-regarded-page-can-be-counted : (p : List ℕ) → p ≡ regarded w page → Regardable size p
+    the-regarded-page-can-be-counted p r = the-regarded-is-good size w page p 0 (sym (readiness.rows size w list store page lent-earns-nothing .base)) refl r
+
+    module _ (q : PageSize size) (k : All IsKey keys) where
+      ready : Ready w list store (regarded w page)
+      ready = readiness.accepted-things-are-ready size w list store page lent-earns-nothing q
+
+      keyed-entries : All EntryKeyed (take (w .used) list)
+      keyed-entries =
+          let a : All EntryKeyed list = rw (rows-and-keys-agree rows keys (ready .list-there) .1) (entries-keyed rows k) in
+          all-left (take (w .used) list) (drop (w .used) list) (rw (take-append-drop (w .used) list) a)
+
+      gives : Gives size w rows keys store (regarded w page) area tickets
+      gives = record {
+        sized = q;
+        ready = ready;
+        keyed = rw (pending-parts w list store (regarded w page)) (pending-keys-have-32-bytes size q w list store page lent-earns-nothing keyed-entries);
+        light = rw (pending-parts w list store (regarded w page)) (pending-values-are-light size q w list store page lent-earns-nothing);
+        rise = readiness.c size w list store page lent-earns-nothing .keys-rise;
+        counted = the-pending-records-are-counted size w list store page lent-earns-nothing;
+        summed = the-pending-values-are-summed size w list store page lent-earns-nothing;
+        area-room = leb-true (asked * size) (length area) (and-left (leb (asked * size) (length area)) (leb (asked * 65) (length tickets)) has-pages);
+        ticket-room = leb-true (asked * 65) (length tickets) (and-right (leb (asked * size) (length area)) (leb (asked * 65) (length tickets)) has-pages);
+      }
+
+      pub an-accepted-work-can-be-digested : (p : List ℕ) → p ≡ regarded w page → Digests size w rows keys store p area tickets
+      an-accepted-work-can-be-digested p r = rw r (record { gives = gives; in-place = readiness.in-place size w list store page lent-earns-nothing })
+
+    taken : o ≡ outcome.digestDone size w list store area tickets (plan size (cutoffOf w) pending)
+    unfolding outcome.digestOn
+    taken = rw (eq-eqb number 0 none, outcome.digestOn)
+
+    replied : (left : List Record) (n : ℕ) (c : List ℕ) → outcome.digestNumber (outcome.digestReplyBy left n c) ≡ 0
+    replied [] n c = refl
+    replied (r ∷ rs) n c = refl
+
+    accepted : outcome.digestNumber (o .reply) ≡ 0
+    accepted =
+        ap (λ (x : outcome.Digested). outcome.digestNumber (x .reply)) taken
+        ∙ replied (plan size (cutoffOf w) pending .left) (length (plan size (cutoffOf w) pending .leaves)) (w .cutoff)
+
+    pub an-accepted-digest-leaves-its-outcome : (p : List ℕ) → p ≡ regarded w page → (r : Digested) (rows′ keys′ : List (List ℕ)) (store′ area′ tickets′ : List ℕ)
+        → Leaves (outcome.digestDone size w (listOf rows keys) store area tickets (planned size w rows keys store p)) r rows′ keys′ store′ area′ tickets′
+        → (let o : outcome.Digested = outcome.digestOf size w (listOf rows keys) store page area tickets in
+        (replyOf (r .reply) (r .cutoff) ≡ o .reply) × (r .cutoff ≡ cutoffBeside (o .reply)) × (r .work ≡ o .work) × (rows′ ≡ rowsAfter (outcome.digestNumber (o .reply)) (o .list) rows)
+        × (keys′ ≡ keysAfter (outcome.digestNumber (o .reply)) (o .list) keys) × (store′ ≡ o .store) × (area′ ≡ o .area) × (tickets′ ≡ o .tickets))
+    an-accepted-digest-leaves-its-outcome p q r rows′ keys′ store′ area′ tickets′ l =
+        let m : Leaves o r rows′ keys′ store′ area′ tickets′ = rw (taken, ← q) l in
+        rw (rowsAfter, keysAfter, accepted) (m .reply-is, m .cutoff-is, m .work-is, m .rows-are, m .keys-are, m .store-is, m .area-is, m .tickets-are)
