@@ -1,6 +1,7 @@
 // The calls as a firmware programmer links them: document 01's calls under C names with the prefix `leaf_`, refusals by
 // document 01's numbers. No call has a `requires`. An enum can't cross to C, so replies are structs of numbers; `specs/`
 // says which one stands for each case.
+use leaf_digest::Gave;
 use leaf_ingest::Change;
 use leaf_ingest::Report;
 use leaf_node::Cell;
@@ -26,12 +27,14 @@ ghost use Rattle.leaf_model.specs.Work as model;
 ghost use Rattle.leaf_work.specs.TakingUp.{newEntries};
 ghost use Rattle.leaf_work.specs.Outcome as outcome;
 ghost use Rattle.leaf_work.specs.Outcome.{Opened, openOf, replyNumber, Changed, nextBaseOf, removeCutoffOf, twinOf, partOf, inScopeOf};
+ghost use Rattle.leaf_work.specs.Digest as digesting;
 ghost use Rattle.leaf_open.specs.Opening.{openingOf};
+ghost use Rattle.leaf_digest.specs.Reply as gave;
 ghost use Rattle.leaf_ingest.specs.Reply.{changeOf, replyOf};
 ghost use Rattle.leaf_ingest.specs.Steps.{rowsWith};
 ghost use Rattle.leaf_pending.specs.Reply.{twinOut};
 ghost use Rattle.leaf_updater.specs.Copy.{copiedWhole};
-ghost use Rattle.leaf_updater.specs.Reply.{changeGiven, ingestOut, keyOut, refusedValue, foundValue, valueOut, getOut, sizeOut};
+ghost use Rattle.leaf_updater.specs.Reply.{changeGiven, ingestOut, digestOut, keyOut, refusedValue, foundValue, valueOut, getOut, sizeOut};
 
 // ---- keys
 
@@ -320,6 +323,64 @@ pub extern "C" fn leaf_flat_ingest(
     );
     let reply = after.reply;
     ingested_out(reply, after.work)
+}
+
+// A digest's answer: 0 or the refusal, how many leaves it gave, whether it waits for a merge, 1 or 0, and the cutoff for which it waits,
+// else zeros; and the work record after the call.
+#[repr(C)]
+pub struct LeafDigested {
+    pub refusal: u8,
+    pub waiting: u8,
+    pub leaves: usize,
+    pub cutoff: [u8; 32],
+    pub work: Work,
+}
+
+fn digested_out(reply: Gave, cutoff: [u8; 32], work: Work) -> LeafDigested
+    ensures { λ r. ⌜ r ≡ digestOut (gave.replyOf reply cutoff) work ⌝ }
+{
+    match reply {
+        Gave::Refused(n) => LeafDigested {
+            refusal: n,
+            waiting: 0,
+            leaves: 0,
+            cutoff: [0u8; 32],
+            work: work,
+        },
+        Gave::Finished(leaves) => LeafDigested {
+            refusal: 0,
+            waiting: 0,
+            leaves: leaves,
+            cutoff: [0u8; 32],
+            work: work,
+        },
+        Gave::Merge(leaves) => LeafDigested {
+            refusal: 0,
+            waiting: 1,
+            leaves: leaves,
+            cutoff: cutoff,
+            work: work,
+        },
+    }
+}
+
+// Gives leaves of an open work's pending records: each as a page of the area, with its ticket in the other buffer.
+#[no_mangle]
+pub extern "C" fn leaf_flat_digest(
+    work: Work,
+    rows: &mut [[usize; 5]],
+    keys: &mut [[u8; 32]],
+    store: &mut [u8],
+    page: &[u8],
+    area: &mut [u8],
+    tickets: &mut [u8],
+) -> LeafDigested
+    ensures { λ r. ⌜ (let o : digesting.Digested = digesting.digestOf 4096 work (listOf (now (rows .entry)) (now (keys .entry))) (now (store .entry)) (now (page .entry)) (now (area .entry)) (now (tickets .entry)) in (r ≡ digestOut (o .reply) (o .work)) × (now (rows .exit) ≡ rowsAfter (digesting.digestNumber (o .reply)) (o .list) (now (rows .entry))) × (now (keys .exit) ≡ keysAfter (digesting.digestNumber (o .reply)) (o .list) (now (keys .entry))) × (now (store .exit) ≡ o .store) × (now (area .exit) ≡ o .area) × (now (tickets .exit) ≡ o .tickets)) ⌝ }
+{
+    let after = leaf_digest::digest(work, rows, keys, store, page, area, tickets);
+    let reply = after.reply;
+    let cutoff = after.cutoff;
+    digested_out(reply, cutoff, after.work)
 }
 
 // The next base of a work that waits, or is done and has a cutoff.
