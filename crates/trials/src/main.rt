@@ -1,5 +1,6 @@
 // Document 01, "Bench trials", through the proved calls: a line for each trial with what came out, and whether that is
 // what the paper states. A star marks the trials of the proved table.
+mod digests;
 mod keys;
 mod line;
 mod pages;
@@ -12,4 +13,5 @@ fn main() {
     keys::run();
     pages::run();
     works::run();
+    digests::run();
 }

@@ -7,7 +7,7 @@ use leaf_open::Updated;
 use leaf_updater::LeafIngested;
 use leaf_work::Work;
 
-fn no_work() -> Work {
+pub(crate) fn no_work() -> Work {
     let none = [0u8; 32];
     Work {
         turn: 0,
