@@ -4,6 +4,7 @@
 
 mod keys;
 mod pages;
+mod sequences;
 
 use std::path::Path;
 use std::process::ExitCode;
@@ -26,7 +27,8 @@ fn write_all(dir: &Path) -> io::Result<()> {
     fs::create_dir_all(dir)?;
     write(dir, "separate", &keys::separate_records(), keys::RECORD)?;
     write(dir, "pages", &pages::page_records(), pages::RECORD)?;
-    write(dir, "builds", &pages::build_records(), pages::BUILD_RECORD)
+    write(dir, "builds", &pages::build_records(), pages::BUILD_RECORD)?;
+    write(dir, "sequences", &sequences::records(), sequences::RECORD)
 }
 
 fn write(dir: &Path, name: &str, bytes: &[u8], record: usize) -> io::Result<()> {

@@ -11,7 +11,7 @@ use borrow.Author.Tests.{eq-eqb, ne-eqb, le-leb, lt-leb}
 use Rattle.leaf_node.specs.Build.{put}
 use Rattle.leaf_node.proofs.Copying.{put-all}
 use Rattle.leaf_work.specs.Tests.{sameBytes}
-use Rattle.replay.specs.Parts.{keyFrom, hasAt}
+use Rattle.replay.specs.Parts.{keyFrom, hasAt, hasPart}
 
 -- a key from a place on
 
@@ -65,3 +65,20 @@ module _ (s : List ℕ) (at : ℕ) (bytes : List ℕ) where
   part-is-as-long h k =
       let n : at + length bytes - at ≡ length bytes = omega arith in
       rw n (length-take-le (length bytes) (drop at s) (omega (arith, length-drop at s)))
+
+-- bytes of another buffer
+
+module _ (s : List ℕ) (at : ℕ) (other : List ℕ) (from n : ℕ) where
+  pub the-other-is-shorter : length other < n → false ≡ hasPart s at other from n
+  unfolding hasPart
+  the-other-is-shorter h = rw (lt-leb (from + n) (length other) (omega arith))
+
+  pub the-other-ends-before : n ≤ length other → length other - n < from → false ≡ hasPart s at other from n
+  unfolding hasPart
+  the-other-ends-before h k = rw (lt-leb (from + n) (length other) (omega arith))
+
+  pub the-part-decides : n ≤ length other → from ≤ length other - n → (r : Bool) → r ≡ hasAt s at (take (from + n - from) (drop from other)) → r ≡ hasPart s at other from n
+  unfolding hasPart
+  the-part-decides h k r e =
+      let m : from + n - from ≡ n = omega arith in
+      rw (le-leb (from + n) (length other) (omega arith)) (e ∙ rw m)

@@ -1,9 +1,9 @@
 // Bytes of a record. Past its end they are zero, so that no length must be shown here.
 ghost use mathlib.Core.Path.{_≡_};
-ghost use Prim.Native.Nat.{_<_, _+_, _*_};
-ghost use lib.ListN.{length, getD};
-ghost use Rattle.leaf_work.specs.Tests.{sameBytes};
-ghost use Rattle.replay.specs.Parts.{keyFrom, hasAt};
+ghost use Prim.Native.Nat.{_<_};
+ghost use lib.ListN.{length, getD, drop, replicate};
+ghost use Rattle.leaf_work.specs.Tests.{every, sameBytes};
+ghost use Rattle.replay.specs.Parts.{keyFrom, numberAt, hasAt, hasPart, isHeld};
 
 pub(crate) fn byte(s: &[u8], at: usize) -> u8
     ensures { λ r. ⌜ r ≡ getD (now (s .entry)) at 0 ⌝ }
@@ -20,7 +20,8 @@ fn wide(x: u8) -> usize
 
 // A number of two bytes, low byte first.
 pub(crate) fn number(s: &[u8], at: usize) -> usize
-    ensures { λ r. ⌜ r ≡ getD (now (s .entry)) at 0 + 256 * getD (now (s .entry)) (at + 1) 0 ⌝ }
+    ensures { λ r. ⌜ r ≡ numberAt (now (s .entry)) at ⌝ }
+    ensures { λ r. ⌜ r < 65536 ⌝ }
 {
     if at < s.len() {
         wide(byte(s, at)) + 256 * wide(byte(s, at + 1))
@@ -77,4 +78,45 @@ pub(crate) fn same_key(s: &[u8], at: usize, key: &[u8; 32]) -> bool
     ensures { λ r. ⌜ r ≡ hasAt (now (s .entry)) at (now (key .entry)) ⌝ }
 {
     same(s, at, key)
+}
+
+// Whether the record has from `at` on the n bytes that another buffer has from `from` on; false where one of them ends before.
+pub(crate) fn same_part(s: &[u8], at: usize, other: &[u8], from: usize, n: usize) -> bool
+    ensures { λ r. ⌜ r ≡ hasPart (now (s .entry)) at (now (other .entry)) from n ⌝ }
+{
+    if other.len() < n {
+        return false;
+    }
+    if other.len() - n < from {
+        return false;
+    }
+    same(s, at, &other[from..from + n])
+}
+
+// What lent buffers hold before a call.
+const HELD: u8 = 0x5a;
+
+pub(crate) fn hold(s: &mut [u8])
+    ensures { λ _. ⌜ now (s .exit) ≡ replicate (length (now (s .entry))) 0x5a ⌝ }
+    ensures { λ _. ⌜ length (now (s .exit)) ≡ length (now (s .entry)) ⌝ }
+{
+    let mut i = 0;
+    while i < s.len() {
+        s[i] = HELD;
+        i += 1;
+    }
+}
+
+// Whether a buffer still holds that from `from` on.
+pub(crate) fn held(s: &[u8], from: usize) -> bool
+    ensures { λ r. ⌜ r ≡ every isHeld (drop from (now (s .entry))) ⌝ }
+{
+    let mut i = from;
+    while i < s.len() {
+        if s[i] != HELD {
+            return false;
+        }
+        i += 1;
+    }
+    true
 }

@@ -4,6 +4,7 @@ mod bytes;
 mod keys;
 mod pages;
 mod tally;
+mod works;
 
 use libc::STDOUT_FILENO;
 use tally::Tally;
@@ -13,6 +14,7 @@ enum Kind {
     Keys,
     Pages,
     Builds,
+    Sequences,
 }
 
 fn next(kind: Kind, fd: i32, t: Tally) -> Tally {
@@ -20,6 +22,7 @@ fn next(kind: Kind, fd: i32, t: Tally) -> Tally {
         Kind::Keys => keys::next(fd, t),
         Kind::Pages => pages::next(fd, t),
         Kind::Builds => pages::next_build(fd, t),
+        Kind::Sequences => works::all(fd, t),
     }
 }
 
@@ -56,4 +59,5 @@ fn main() {
     report(b"separate  ", replay(b"separate", Kind::Keys));
     report(b"pages     ", replay(b"pages", Kind::Pages));
     report(b"builds    ", replay(b"builds", Kind::Builds));
+    report(b"sequences ", replay(b"sequences", Kind::Sequences));
 }
