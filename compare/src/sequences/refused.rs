@@ -68,12 +68,16 @@ impl Reasons {
     }
 }
 
-/// A damaged copy that is no good page, and its number.
+/// A damaged copy that is no good page, and its number: each of 1 to 5 that the copies have is as likely, however few have it.
 fn bad_page(rng: &mut Rng, page: &[u8]) -> (Vec<u8>, u8) {
-    let copies = made::damaged(rng, page);
-    let bad: Vec<_> = copies.into_iter().filter(|p| plain_check(p) != 0).collect();
-    let page = bad[rng.between(0, bad.len() - 1)].clone();
-    let number = plain_check(&page);
+    let mut bad = [const { Vec::new() }; 6];
+    for copy in made::damaged(rng, page) {
+        bad[plain_check(&copy) as usize].push(copy);
+    }
+    let numbers: Vec<u8> = (1..=5).filter(|&n| !bad[n as usize].is_empty()).collect();
+    let number = numbers[rng.between(0, numbers.len() - 1)];
+    let of_number = &mut bad[number as usize];
+    let page = of_number.swap_remove(rng.between(0, of_number.len() - 1));
     (page, number)
 }
 
