@@ -4,6 +4,7 @@ mod keys;
 mod pages;
 mod works;
 
+use std::hint::black_box;
 use std::process::ExitCode;
 use std::time::Instant;
 
@@ -36,7 +37,48 @@ fn report(call: &str, inputs: &str, calls: usize, mut rust: impl FnMut(), mut ou
             ours_times.push(ours_time);
         }
     }
-    let (rust, ours) = (median(rust_times), median(ours_times));
+    print_both(call, inputs, median(rust_times), median(ours_times));
+}
+
+/// Times both sides on things that each call uses up: `calls` of them are made before the clock starts. `check` is our call where it is
+/// refused after all that document 01 has checked at every call.
+fn report_used_up<R, O>(
+    call: &str,
+    inputs: &str,
+    calls: usize,
+    rust: (impl Fn() -> R, impl Fn(&mut R)),
+    ours: (impl Fn() -> O, impl Fn(&mut O)),
+    check: impl Fn(&mut O),
+) {
+    let (make, run) = ours;
+    let mut times = [Vec::new(), Vec::new(), Vec::new()];
+    for round in 0..=ROUNDS {
+        let round_times = [
+            time_used_up(calls, &rust.0, &rust.1),
+            time_used_up(calls, &make, &run),
+            time_used_up(calls, &make, &check),
+        ];
+        if round > 0 {
+            (times.iter_mut().zip(round_times)).for_each(|(all, time)| all.push(time));
+        }
+    }
+    let [rust, ours, check] = times.map(median);
+    print_both(call, inputs, rust, ours);
+    let (share, beside) = (100.0 * check / ours, (ours - check) / rust);
+    println!(
+        "{:<12} {:<38} the check {check:>7.1} ns, {share:.0} %   beside it, ours/Rust {beside:.2}",
+        "", ""
+    );
+}
+
+fn time_used_up<T>(calls: usize, make: &impl Fn() -> T, run: &impl Fn(&mut T)) -> f64 {
+    let mut all: Vec<T> = (0..calls).map(|_| make()).collect();
+    let elapsed = time(calls, &mut || all.iter_mut().for_each(run));
+    drop(black_box(all));
+    elapsed
+}
+
+fn print_both(call: &str, inputs: &str, rust: f64, ours: f64) {
     let ratio = ours / rust;
     println!(
         "{call:<12} {inputs:<38} the Rust {rust:>7.1} ns   ours {ours:>7.1} ns   ours/Rust {ratio:.2}"

@@ -4,7 +4,7 @@
 //! calls, `vectors` replays recorded ones, `bench` times both sides, `record` writes the Rust's answers to a file.
 //!
 //! Where a further call goes: its declaration and guarded wrapper in `ours`, its reference in `oracle`, its
-//! random inputs in a module like `keys` (listed in `random::SUBJECTS`), its line in `ours::side`.
+//! random inputs in a module like `keys` (listed in `random::SUBJECTS`), its line in `side` and in both sides.
 
 mod bench;
 mod hex;
@@ -18,6 +18,7 @@ mod random;
 mod record;
 mod rng;
 mod sequences;
+mod side;
 mod vectors;
 
 // The included Rust names these by `crate::beatree` and `crate::io`.
@@ -30,6 +31,8 @@ use std::process::ExitCode;
 
 const USAGE: &str = "\
 usage: compare random SECONDS SEED   made-up calls to both sides, for so many seconds
+       compare sequences CALLS SEED  made-up sequences of calls on a work, for so many calls
+       compare exhaustive CALLS      every sequence of so many calls over a few keys and sizes
        compare vectors DIR           the recorded call sequences DIR/*.txt
        compare plain DIR             the same on the plain functions in place of the library
        compare bench                 times of both sides (build with --profile timing)
@@ -41,6 +44,16 @@ fn main() -> ExitCode {
     match words[..] {
         ["random", seconds, seed] => match (seconds.parse(), seed.parse()) {
             (Ok(seconds), Ok(seed)) => random::run(seconds, seed),
+            _ => usage(),
+        },
+        ["sequences", calls, seed] => match (calls.parse(), seed.parse()) {
+            (Ok(calls), Ok(seed)) => random::run_sequences(calls, seed),
+            _ => usage(),
+        },
+        ["exhaustive", calls] => match calls.parse() {
+            Ok(calls) => random::counted("exhaustive", |tally| {
+                sequences::exhaustive::run(calls, tally)
+            }),
             _ => usage(),
         },
         ["vectors", dir] => vectors::run(Path::new(dir), Library::default),

@@ -1,5 +1,5 @@
 //! `compare random SECONDS SEED`: made-up calls to both sides until the time is up.
-//! The calls depend on the seed alone; the time only says where they stop.
+//! The calls depend on the seed alone; the time only says where they stop. `compare sequences CALLS SEED`: sequences of calls on a work alone.
 
 use crate::keys;
 use crate::lent::Damage;
@@ -65,7 +65,11 @@ impl Tally {
     }
 
     pub fn agreed(&mut self, kind: &'static str) {
-        self.kind(kind).count += 1;
+        self.agreed_times(kind, 1);
+    }
+
+    pub fn agreed_times(&mut self, kind: &'static str, times: u64) {
+        self.kind(kind).count += times;
     }
 
     /// A call that was refused by this number, as it had to be.
@@ -97,8 +101,25 @@ impl fmt::Display for Kind {
 }
 
 pub fn run(seconds: u64, seed: u64) -> ExitCode {
+    let limit = Duration::from_secs(seconds);
+    counted(&format!("seed {seed}"), |tally| rounds(limit, seed, tally))
+}
+
+/// Sequences alone, for so many calls at least.
+pub fn run_sequences(calls: u64, seed: u64) -> ExitCode {
+    counted(&format!("seed {seed}"), |tally| {
+        let mut rng = Rng::new(seed);
+        while tally.total() < calls {
+            sequences::round(&mut rng, tally)?;
+        }
+        Ok(())
+    })
+}
+
+/// Runs the calls and says how many of each kind agreed, and which one didn't.
+pub fn counted(which: &str, calls: impl FnOnce(&mut Tally) -> Result<(), Mismatch>) -> ExitCode {
     let mut tally = Tally::default();
-    let outcome = rounds(Duration::from_secs(seconds), seed, &mut tally);
+    let outcome = calls(&mut tally);
     for kind in &tally.kinds {
         println!("{kind}");
     }
@@ -110,7 +131,7 @@ pub fn run(seconds: u64, seed: u64) -> ExitCode {
         }
         Err(mismatch) => {
             let number = passed + 1;
-            println!("mismatch: {}, seed {seed}, call {number}", mismatch.call);
+            println!("mismatch: {}, {which}, call {number}", mismatch.call);
             for (label, text) in &mismatch.lines {
                 println!("  {label:<12} {text}");
             }

@@ -1,10 +1,11 @@
 //! Made-up sequences of calls on a work: the plain functions beside the unchanged Rust on every accepted call, and calls that
-//! must be refused, whose number the sequence knows by itself; the library beside the plain functions on every call that it has.
+//! must be refused, whose number the sequence knows by itself; the library beside the plain functions on every call.
 
 mod changed;
 mod claim;
 mod damaged;
-mod made;
+pub mod exhaustive;
+pub mod made;
 mod pair;
 mod refused;
 
@@ -339,6 +340,7 @@ mod tests {
                 "ingest, refused",
                 &[1, 2, 3, 4, 5, 6, 7, 8, 9, 12, 13, 14, 15, 16],
             ),
+            ("digest, refused", &[1, 2, 3, 4, 5, 6, 7, 8, 9, 17]),
             (
                 "next base, refused",
                 &[1, 2, 3, 4, 5, 6, 7, 8, 9, 13, 15, 16],

@@ -1,6 +1,5 @@
-//! `compare vectors DIR`: the recorded sequences DIR/*.txt, run on the library; each answer must be the
-//! recorded one. A call that is not ported yet is skipped and counted; a malformed line is a failure.
-//! `compare plain DIR`: the same on the plain functions, of which none is skipped.
+//! `compare vectors DIR`: the recorded sequences DIR/*.txt, run on the library; each answer must be the recorded one, and a
+//! malformed line is a failure. `compare plain DIR`: the same on the plain functions.
 
 pub mod answers;
 pub mod calls;
@@ -9,7 +8,7 @@ mod written;
 
 use crate::lent::Damage;
 use answers::{Answer, Line};
-use calls::{Call, UseOfWork};
+use calls::Call;
 use std::path::{Path, PathBuf};
 use std::process::ExitCode;
 use std::{fs, io};
@@ -17,44 +16,11 @@ use std::{fs, io};
 pub enum Outcome {
     Answered(Answer),
     Damaged(Damage),
-    NotPorted,
 }
 
 /// What recorded calls are run on. It keeps the sequence's work between them.
 pub trait Side {
     fn run(&mut self, call: &Call) -> Outcome;
-}
-
-#[cfg(test)]
-impl<F: FnMut(&Call) -> Outcome> Side for F {
-    fn run(&mut self, call: &Call) -> Outcome {
-        self(call)
-    }
-}
-
-/// The calls of one file.
-#[derive(Default)]
-struct Sequence {
-    /// A skipped call should have made or changed the work: what is recorded of it cannot be compared until
-    /// another `open` is accepted.
-    work_lost: bool,
-}
-
-impl Sequence {
-    fn run(&mut self, call: &Call, side: &mut impl Side) -> Outcome {
-        let work = call.use_of_work();
-        let needs_work = matches!(work, UseOfWork::Changes | UseOfWork::Reads);
-        if needs_work && self.work_lost {
-            return Outcome::NotPorted;
-        }
-        let outcome = side.run(call);
-        match (work, &outcome) {
-            (UseOfWork::Makes | UseOfWork::Changes, Outcome::NotPorted) => self.work_lost = true,
-            (UseOfWork::Makes, Outcome::Answered(Answer::Accepted)) => self.work_lost = false,
-            _ => {}
-        }
-        outcome
-    }
 }
 
 /// A call and its recorded answer, with the call's line.
@@ -108,17 +74,9 @@ fn read_step<'a>(line: Line<'a>, answers: &[Line]) -> Result<Step<'a>, Failure> 
 struct Report {
     passed: usize,
     failed: usize,
-    skipped: Vec<(&'static str, usize)>,
 }
 
 impl Report {
-    fn skip(&mut self, name: &'static str) {
-        match self.skipped.iter_mut().find(|(known, _)| *known == name) {
-            Some((_, count)) => *count += 1,
-            None => self.skipped.push((name, 1)),
-        }
-    }
-
     /// Counts a file's failures and prints the first: those behind it may be its consequences.
     fn fail(&mut self, file: &str, mut failures: Vec<Failure>) {
         self.failed += failures.len();
@@ -133,13 +91,6 @@ impl Report {
     }
 
     fn finish(self) -> ExitCode {
-        if !self.skipped.is_empty() {
-            let names = self.skipped.iter();
-            let names: Vec<String> = names
-                .map(|(name, count)| format!("{name} {count}"))
-                .collect();
-            println!("skipped, not ported yet: {}", names.join(", "));
-        }
         // A run that compared nothing shows nothing, so it is no success.
         if self.passed + self.failed == 0 {
             println!("nothing was compared");
@@ -190,13 +141,8 @@ fn run_file(name: &str, text: &str, side: &mut impl Side, report: &mut Report) {
     for failure in &mut failures {
         failure.1 = format!("malformed: {}", failure.1);
     }
-    let mut sequence = Sequence::default();
     for step in steps {
-        let got = match sequence.run(&step.call, side) {
-            Outcome::NotPorted => {
-                report.skip(step.call.name());
-                continue;
-            }
+        let got = match side.run(&step.call) {
             Outcome::Answered(answer) if answer == step.answer => {
                 report.passed += 1;
                 continue;
@@ -279,29 +225,5 @@ mod tests {
         ] {
             assert!(malformed(bad).contains(&line), "{bad}");
         }
-    }
-
-    #[test]
-    fn what_a_skipped_call_should_have_changed_is_skipped() {
-        let mut run_all_but_ingest = |call: &Call| match call {
-            Call::Ingest { .. } => Outcome::NotPorted,
-            Call::Open { list: 0, .. } => Outcome::Answered(Answer::Refused(7)),
-            _ => Outcome::Answered(Answer::Accepted),
-        };
-        let mut sequence = Sequence::default();
-        let mut skips = |line: &str| {
-            let call = Call::read(line).unwrap();
-            let outcome = sequence.run(&call, &mut run_all_but_ingest);
-            matches!(outcome, Outcome::NotPorted)
-        };
-        assert!(!skips("open base=none cutoff=none list=121 store=4096"));
-        assert!(!skips("twin index=0"));
-        assert!(skips("ingest key=(32*00) delete"));
-        assert!(skips("twin index=0"));
-        assert!(!skips("separate a=(32*00) b=(32*00)"));
-        assert!(!skips("open base=none cutoff=none list=0 store=4096"));
-        assert!(skips("dump"));
-        assert!(!skips("open base=none cutoff=none list=121 store=4096"));
-        assert!(!skips("dump"));
     }
 }

@@ -12,6 +12,7 @@ use crate::pages::{clear_gap, node_of};
 use crate::plain::work::{State, INSERT};
 use crate::vectors::answers::{Answer, Entry, Holder, Pending};
 use crate::vectors::calls::{Base, Call, Change};
+use std::hint::black_box;
 use std::sync::Arc;
 
 pub struct Updater {
@@ -21,26 +22,17 @@ pub struct Updater {
     node: Option<Arc<LeafNode>>,
 }
 
-/// What `handle_new_leaf` is given, as pages with a cleared gap and packed tickets.
-#[derive(Default)]
-struct Leaves {
-    pages: Vec<Vec<u8>>,
-    tickets: Vec<u8>,
-}
+/// Gives each new leaf to a function.
+struct Each<F>(F);
 
-impl HandleNewLeaf for Leaves {
+impl<F: FnMut(Key, LeafNode, Option<Key>)> HandleNewLeaf for Each<F> {
     fn handle_new_leaf(
         &mut self,
         separator: Key,
         node: LeafNode,
         cutoff: Option<Key>,
     ) -> std::io::Result<()> {
-        let mut page = node.inner.to_vec();
-        clear_gap(&mut page);
-        self.pages.push(page);
-        self.tickets.push(if cutoff.is_some() { 1 } else { 2 });
-        self.tickets.extend(separator);
-        self.tickets.extend(cutoff.iter().flatten());
+        (self.0)(separator, node, cutoff);
         Ok(())
     }
 }
@@ -118,17 +110,38 @@ impl Updater {
         Answer::Report(report)
     }
 
+    /// A digest whose leaves are only counted, for timing.
+    pub fn digest_bare(&mut self) -> usize {
+        let mut leaves = 0;
+        let result = self.inner.digest(&mut Each(|separator, node, cutoff| {
+            black_box((separator, node, cutoff));
+            leaves += 1;
+        }));
+        black_box(result.is_ok());
+        leaves
+    }
+
+    /// The leaves as pages with a cleared gap and packed tickets.
     fn digest(&mut self) -> Answer {
         let asked = self.body().div_ceil(2047);
-        let mut leaves = Leaves::default();
-        let result = self.inner.digest(&mut leaves);
+        let (mut pages, mut tickets) = (Vec::new(), Vec::new());
+        let result = self.inner.digest(&mut Each(
+            |separator, node: LeafNode, cutoff: Option<Key>| {
+                let mut page = node.inner.to_vec();
+                clear_gap(&mut page);
+                pages.push(page);
+                tickets.push(if cutoff.is_some() { 1 } else { 2 });
+                tickets.extend(separator);
+                tickets.extend(cutoff.iter().flatten());
+            },
+        ));
         let wait = match result.expect("writing into memory does not fail") {
             DigestResult::NeedsMerge(cutoff) => Some(cutoff),
             DigestResult::Finished => None,
         };
         Answer::Leaves {
-            pages: leaves.pages,
-            tickets: leaves.tickets,
+            pages,
+            tickets,
             wait,
             asked,
         }

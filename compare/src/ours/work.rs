@@ -3,7 +3,9 @@
 use crate::lent::{Damage, Lent};
 use crate::oracle::Key;
 use crate::plain::calls::Report;
+use crate::plain::digest::Digested;
 use crate::plain::work::{Entry, State, Work};
+use crate::side::Ran;
 use crate::vectors::calls::{Base, Change};
 
 /// The work record after a call, and 0 or the refusal.
@@ -20,6 +22,16 @@ struct Ingested {
     reported: u8,
     offset: usize,
     len: usize,
+    work: Work,
+}
+
+/// A digest's answer: the work record after it, 0 or the refusal, the leaves, and the cutoff for which it waits.
+#[repr(C)]
+struct Gave {
+    refusal: u8,
+    waiting: u8,
+    leaves: usize,
+    cutoff: Key,
     work: Work,
 }
 
@@ -75,6 +87,21 @@ extern "C" {
         value: *const u8,
         value_len: usize,
     ) -> Ingested;
+    fn leaf_flat_digest(
+        work: Work,
+        rows: *mut u8,
+        rows_len: usize,
+        keys: *mut u8,
+        keys_len: usize,
+        store: *mut u8,
+        store_len: usize,
+        page: *const u8,
+        page_len: usize,
+        area: *mut u8,
+        area_len: usize,
+        tickets: *mut u8,
+        tickets_len: usize,
+    ) -> Gave;
     fn leaf_flat_next_base(
         work: Work,
         rows: *const u8,
@@ -154,47 +181,58 @@ pub mod bare {
 
     // SAFETY of all: pointers and the lengths that belong to them, and places of 32 bytes for keys.
 
+    macro_rules! call {
+        ($call:ident, $flat:ident, $page:ident $(, $more:expr)*) => {
+            unsafe {
+                super::$call(
+                    $flat.work.clone(),
+                    $flat.rows.as_mut_ptr().cast(),
+                    $flat.rows.len(),
+                    $flat.keys.as_mut_ptr().cast(),
+                    $flat.keys.len(),
+                    $flat.store.as_mut_ptr(),
+                    $flat.store.len(),
+                    $page.as_ptr(),
+                    $page.len()
+                    $(, $more)*
+                )
+            }
+        };
+    }
+
     #[inline(always)]
-    pub fn twin(flat: &Flat, page: &[u8], i: usize) -> TwinPlace {
-        unsafe {
-            super::leaf_flat_twin(
-                flat.work.clone(),
-                flat.rows.as_ptr().cast(),
-                flat.rows.len(),
-                flat.keys.as_ptr().cast(),
-                flat.keys.len(),
-                flat.store.as_ptr(),
-                flat.store.len(),
-                page.as_ptr(),
-                page.len(),
-                i,
-            )
-        }
+    pub fn twin(flat: &mut Flat, page: &[u8], i: usize) -> TwinPlace {
+        call!(leaf_flat_twin, flat, page, i)
     }
 
     /// An ingest of a new value; whether it was accepted.
     #[inline(always)]
     pub fn put(flat: &mut Flat, page: &[u8], key: &Key, value: &[u8]) -> bool {
-        let after = unsafe {
-            super::leaf_flat_ingest(
-                flat.work.clone(),
-                flat.rows.as_mut_ptr().cast(),
-                flat.rows.len(),
-                flat.keys.as_mut_ptr().cast(),
-                flat.keys.len(),
-                flat.store.as_mut_ptr(),
-                flat.store.len(),
-                page.as_ptr(),
-                page.len(),
-                key,
-                1,
-                0,
-                value.as_ptr(),
-                value.len(),
-            )
-        };
+        let (bytes, length) = (value.as_ptr(), value.len());
+        let after = call!(leaf_flat_ingest, flat, page, key, 1, 0, bytes, length);
         flat.work = after.work;
         after.refusal == 0
+    }
+
+    /// A digest; how many leaves it gave, or None where it was refused.
+    #[inline(always)]
+    pub fn digest(
+        flat: &mut Flat,
+        page: &[u8],
+        area: &mut [u8],
+        tickets: &mut [u8],
+    ) -> Option<usize> {
+        let after = call!(
+            leaf_flat_digest,
+            flat,
+            page,
+            area.as_mut_ptr(),
+            area.len(),
+            tickets.as_mut_ptr(),
+            tickets.len()
+        );
+        flat.work = after.work;
+        (after.refusal == 0).then_some(after.leaves)
     }
 }
 
@@ -276,12 +314,36 @@ macro_rules! reading {
     };
 }
 
-/// The refusal or 0, and work record, list and store after the call.
-pub type After = Result<(u8, State), Damage>;
+/// A call that changes list and store, with the base page.
+macro_rules! writing {
+    ($call:ident, $state:ident, $flat:ident, $page:expr, $length:expr $(, $more:expr)*) => {
+        unsafe {
+            $call(
+                $state.work.clone(),
+                $flat.rows.ptr_mut(),
+                $flat.entries,
+                $flat.keys.ptr_mut(),
+                $flat.entries,
+                $flat.store.ptr_mut(),
+                $flat.bytes,
+                $page,
+                $length
+                $(, $more)*
+            )
+        }
+    };
+}
+
+fn refused_or_done(refusal: u8) -> Result<(), u8> {
+    match refusal {
+        0 => Ok(()),
+        number => Err(number),
+    }
+}
 
 // SAFETY of all calls: pointers and the lengths that belong to them, numbers aligned, places of 32 bytes for keys.
 
-pub fn open(state: &State, base: Option<&Base>, cutoff: Option<Key>) -> After {
+pub fn open(state: &mut State, base: Option<&Base>, cutoff: Option<Key>) -> Ran<()> {
     let mut flat = Flat::new(state);
     let page = Lent::new(base.map_or(&[], |base| &base.page));
     let page_len = base.map_or(0, |base| base.page.len());
@@ -305,13 +367,11 @@ pub fn open(state: &State, base: Option<&Base>, cutoff: Option<Key>) -> After {
         )
     };
     page.kept("page", base.map_or(&[], |base| &base.page))?;
-    Ok((after.refusal, flat.state(after.work)?))
+    *state = flat.state(after.work)?;
+    Ok(refused_or_done(after.refusal))
 }
 
-/// What an ingest reports or its refusal, and what it leaves.
-pub type AfterIngest = Result<(Result<Report, u8>, State), Damage>;
-
-pub fn ingest(state: &State, page: &[u8], key: &Key, change: &Change) -> AfterIngest {
+pub fn ingest(state: &mut State, page: &[u8], key: &Key, change: &Change) -> Ran<Report> {
     let mut flat = Flat::new(state);
     let lent = Lent::new(page);
     // a deletion's value and flag are ignored
@@ -320,24 +380,18 @@ pub fn ingest(state: &State, page: &[u8], key: &Key, change: &Change) -> AfterIn
         Change::Delete => (0, 1, &[0x77; 2000]),
     };
     let lent_value = Lent::new(value);
-    let after = unsafe {
-        leaf_flat_ingest(
-            state.work.clone(),
-            flat.rows.ptr_mut(),
-            flat.entries,
-            flat.keys.ptr_mut(),
-            flat.entries,
-            flat.store.ptr_mut(),
-            flat.bytes,
-            lent.ptr(),
-            page.len(),
-            key,
-            put,
-            flag,
-            lent_value.ptr(),
-            value.len(),
-        )
-    };
+    let after = writing!(
+        leaf_flat_ingest,
+        state,
+        flat,
+        lent.ptr(),
+        page.len(),
+        key,
+        put,
+        flag,
+        lent_value.ptr(),
+        value.len()
+    );
     lent.kept("page", page)?;
     lent_value.kept("value", value)?;
     let reply = match (after.refusal, after.reported) {
@@ -348,10 +402,46 @@ pub fn ingest(state: &State, page: &[u8], key: &Key, change: &Change) -> AfterIn
     if after.reported == 0 && (after.offset, after.len) != (0, 0) {
         return Err(Damage("a place where nothing is reported".to_string()));
     }
-    Ok((reply, flat.state(after.work)?))
+    *state = flat.state(after.work)?;
+    Ok(reply)
 }
 
-pub fn next_base(state: &State, base: &Base, cutoff: Option<Key>) -> After {
+/// A digest: state, area and tickets are then what it left.
+pub fn digest(
+    state: &mut State,
+    page: &[u8],
+    area: &mut [u8],
+    tickets: &mut [u8],
+) -> Ran<Digested> {
+    let mut flat = Flat::new(state);
+    let lent = Lent::new(page);
+    let (mut lent_area, mut lent_tickets) = (Lent::new(area), Lent::new(tickets));
+    let after = writing!(
+        leaf_flat_digest,
+        state,
+        flat,
+        lent.ptr(),
+        page.len(),
+        lent_area.ptr_mut(),
+        area.len(),
+        lent_tickets.ptr_mut(),
+        tickets.len()
+    );
+    lent.kept("page", page)?;
+    area.copy_from_slice(lent_area.after_call("area")?);
+    tickets.copy_from_slice(lent_tickets.after_call("tickets")?);
+    *state = flat.state(after.work)?;
+    let (waiting, leaves, cutoff) = (after.waiting != 0, after.leaves, after.cutoff);
+    if (!waiting && cutoff != [0; 32]) || (after.refusal != 0 && (waiting || leaves > 0)) {
+        return Err(Damage(
+            "an answer beside a refusal, or a cutoff without a merge request".to_string(),
+        ));
+    }
+    let wait = waiting.then_some(cutoff);
+    Ok(refused_or_done(after.refusal).map(|()| Digested { leaves, wait }))
+}
+
+pub fn next_base(state: &mut State, base: &Base, cutoff: Option<Key>) -> Ran<()> {
     let flat = Flat::new(state);
     let page = Lent::new(&base.page);
     let after = reading!(
@@ -365,57 +455,78 @@ pub fn next_base(state: &State, base: &Base, cutoff: Option<Key>) -> After {
         &cutoff.unwrap_or([0x77; 32])
     );
     page.kept("page", &base.page)?;
-    Ok((after.refusal, flat.state(after.work)?))
+    *state = flat.state(after.work)?;
+    Ok(refused_or_done(after.refusal))
 }
 
-pub fn remove_cutoff(state: &State) -> After {
+pub fn remove_cutoff(state: &mut State) -> Ran<()> {
     let flat = Flat::new(state);
     let after = reading!(leaf_flat_remove_cutoff, state, flat);
-    Ok((after.refusal, flat.state(after.work)?))
+    *state = flat.state(after.work)?;
+    Ok(refused_or_done(after.refusal))
 }
 
-pub fn twin(state: &State, page: &[u8], i: usize) -> Result<TwinPlace, Damage> {
-    let flat = Flat::new(state);
-    let lent = Lent::new(page);
-    let place = reading!(leaf_flat_twin, state, flat, lent.ptr(), page.len(), i);
-    only_read(&flat, state, &lent, page)?;
-    Ok(place)
+/// What the twin call and the part call read, lent once for any number of them.
+pub struct Reader<'a> {
+    state: &'a State,
+    page: &'a [u8],
+    flat: Flat,
+    lent: Lent,
 }
 
-/// The part, by way of a buffer of `room` bytes; None where it had no room for the part.
-pub fn part(state: &State, page: &[u8], i: usize, room: usize) -> Result<Option<Vec<u8>>, Damage> {
-    let flat = Flat::new(state);
-    let lent = Lent::new(page);
-    let held = vec![0x5a; room];
-    let mut out = Lent::new(&held);
-    let length = reading!(
-        leaf_flat_part,
-        state,
-        flat,
-        lent.ptr(),
-        page.len(),
-        i,
-        out.ptr_mut(),
-        room
-    );
-    only_read(&flat, state, &lent, page)?;
-    let bytes = out.after_call("out")?;
-    if room < length {
-        out.kept("out", &held)?;
-        return Ok(None);
+impl<'a> Reader<'a> {
+    pub fn new(state: &'a State, page: &'a [u8]) -> Self {
+        let (flat, lent) = (Flat::new(state), Lent::new(page));
+        Reader {
+            state,
+            page,
+            flat,
+            lent,
+        }
     }
-    if bytes[length..] != held[length..] {
-        return Err(Damage("wrote behind the part".to_string()));
-    }
-    Ok(Some(bytes[..length].to_vec()))
-}
 
-fn only_read(flat: &Flat, state: &State, lent: &Lent, page: &[u8]) -> Result<(), Damage> {
-    lent.kept("page", page)?;
-    if flat.state(state.work.clone())? != *state {
-        return Err(Damage("changed list or store".to_string()));
+    pub fn twin(&self, i: usize) -> TwinPlace {
+        let Reader { state, flat, .. } = self;
+        let (page, length) = (self.lent.ptr(), self.page.len());
+        reading!(leaf_flat_twin, state, flat, page, length, i)
     }
-    Ok(())
+
+    /// The part, by way of a buffer of `room` bytes; None where it had no room for the part.
+    pub fn part(&self, i: usize, room: usize) -> Result<Option<Vec<u8>>, Damage> {
+        let Reader { state, flat, .. } = self;
+        let (page, page_length) = (self.lent.ptr(), self.page.len());
+        let held = vec![0x5a; room];
+        let mut out = Lent::new(&held);
+        let into = out.ptr_mut();
+        let length = reading!(
+            leaf_flat_part,
+            state,
+            flat,
+            page,
+            page_length,
+            i,
+            into,
+            room
+        );
+        let bytes = out.after_call("out")?;
+        if room < length {
+            out.kept("out", &held)?;
+            return Ok(None);
+        }
+        if bytes[length..] != held[length..] {
+            return Err(Damage("wrote behind the part".to_string()));
+        }
+        Ok(Some(bytes[..length].to_vec()))
+    }
+
+    /// The calls only read.
+    pub fn done(self) -> Result<(), Damage> {
+        self.lent.kept("page", self.page)?;
+        if self.flat.state(self.state.work.clone())? != *self.state {
+            return Err(Damage("changed list or store".to_string()));
+        }
+        Ok(())
+    }
 }
 
 pub fn is_in_scope(work: &Work, key: &Key) -> bool {
@@ -431,7 +542,7 @@ pub fn separator(work: &Work) -> Key {
 #[cfg(test)]
 mod tests {
     use super::*;
-    use crate::plain::side::unopened;
+    use crate::side::unopened;
 
     /// Rows and keys of unequal number are no list: 7, and nothing is changed.
     #[test]

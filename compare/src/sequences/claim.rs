@@ -8,7 +8,7 @@ use crate::vectors::answers::Answer;
 use crate::vectors::calls::{Call, Change};
 use std::collections::BTreeMap;
 
-#[derive(Default)]
+#[derive(Clone, Default)]
 pub struct Claim {
     records: BTreeMap<Key, Record>,
     given: Vec<Record>,

@@ -1,9 +1,10 @@
 //! The plain functions and the unchanged Rust in one sequence of calls, compared after each; and the library beside the plain
-//! functions, on every call that it has, refused ones and those on damaged works among them.
+//! functions, on every call, refused ones and those on damaged works among them.
 
 use super::claim::Claim;
 use crate::hex;
 use crate::oracle::updater::Updater;
+use crate::oracle::Key;
 use crate::ours::side::Library;
 use crate::pages::made;
 use crate::plain::pending;
@@ -14,6 +15,7 @@ use crate::rng::Rng;
 use crate::vectors::answers::Answer;
 use crate::vectors::calls::Call;
 use std::fmt::Debug;
+use std::rc::Rc;
 
 /// What a call is due by the sequence's own knowledge: None for accepted, else the refusal's number.
 pub type Due = Option<u8>;
@@ -22,7 +24,7 @@ pub struct Pair {
     pub plain: Plain,
     rust: Updater,
     pub claim: Claim,
-    accepted: Vec<Call>,
+    accepted: Vec<Rc<Call>>,
 }
 
 /// The names of a call in the run's tally: accepted, and refused.
@@ -35,8 +37,7 @@ fn names(call: &Call) -> [&'static str; 2] {
         Call::Uncut { .. } => ["plain cutoff removal", "plain cutoff removal, refused"],
         Call::Twin { .. } => ["plain twin and part", "plain twin and part, refused"],
         Call::Scope { .. } => ["plain is_in_scope"; 2],
-        Call::Separator => ["plain separator"; 2],
-        _ => ["plain twin and part, all pending"; 2],
+        _ => ["plain separator"; 2],
     }
 }
 
@@ -45,6 +46,7 @@ fn library_names(call: &Call) -> [&'static str; 2] {
     match call {
         Call::Open { .. } => ["opening", "opening, refused"],
         Call::Ingest { .. } => ["ingest", "ingest, refused"],
+        Call::Digest { .. } => ["digest", "digest, refused"],
         Call::Next { .. } => ["next base", "next base, refused"],
         Call::Uncut { .. } => ["cutoff removal", "cutoff removal, refused"],
         Call::Twin { .. } => ["twin and part", "twin and part, refused"],
@@ -72,28 +74,74 @@ impl Pair {
             tally.refused(names(&call)[1], number);
             return Ok(());
         }
-        self.compare(&call, &answer)?;
-        self.claim.feed(&call, &answer);
+        self.accept(call, &answer, tally)
+    }
+
+    /// A call that may be accepted or refused. Whether it was accepted.
+    pub fn run_either(&mut self, call: Call, tally: &mut Tally) -> Result<bool, Mismatch> {
+        let answer = self.answer(&call, tally)?;
+        if let Answer::Refused(number) = answer {
+            tally.refused(names(&call)[1], number);
+            return Ok(false);
+        }
+        self.accept(call, &answer, tally)?;
+        Ok(true)
+    }
+
+    fn accept(&mut self, call: Call, answer: &Answer, tally: &mut Tally) -> Result<(), Mismatch> {
+        self.compare(&call, answer)?;
+        self.claim.feed(&call, answer);
         let holds = self.claim.holds(&self.plain);
         self.same(&call, "tally of demand 3", &holds, &true)?;
         tally.agreed(names(&call)[0]);
-        self.accepted.push(call);
+        self.accepted.push(Rc::new(call));
+        self.read_after(tally)
+    }
+
+    /// What every accepted call is followed by: the separator, the scope of the bounds, and on the library every pending record by
+    /// twin and part.
+    fn read_after(&mut self, tally: &mut Tally) -> Result<(), Mismatch> {
+        let work = &self.plain.state.work;
+        let keys = vec![work.cutoff, work.last];
+        self.read_bounds(keys, tally)?;
+        let library: Library = self.plain.on_side();
+        self.dump_of(library, tally)
+    }
+
+    fn dump_of(&self, mut library: Library, tally: &mut Tally) -> Result<(), Mismatch> {
+        let call = Call::Dump;
+        let ours = library.answer(&call);
+        let ours = ours.map_err(|damage| self.mismatch(&call, vec![("library", damage.0)]))?;
+        let entries = self.plain.entries();
+        let pending = pending::all(&self.plain.state, &self.plain.page);
+        // one call for each record, and the refused one
+        let calls = pending.len() as u64 + 1;
+        let due = Answer::Dump { entries, pending };
+        self.same(&call, "pending records by twin and part", &due, &ours)?;
+        tally.agreed_times(library_names(&call)[0], calls);
         Ok(())
+    }
+
+    /// The same sequence once more, to be gone on with.
+    pub fn fork(&self) -> Self {
+        Pair {
+            plain: self.plain.clone(),
+            rust: Updater::of(&self.plain.state, &self.plain.page),
+            claim: self.claim.clone(),
+            accepted: self.accepted.clone(),
+        }
     }
 
     /// The plain functions' answer. The library, lent the same, must give it too and leave the same.
     fn answer(&mut self, call: &Call, tally: &mut Tally) -> Result<Answer, Mismatch> {
-        let held = self.plain.clone();
+        let mut library: Library = self.plain.on_side();
         let answer = self.plain.answer(call);
         let answer = answer.map_err(|damage| self.mismatch(call, vec![("plain", damage.0)]))?;
-        let mut library = Library { held };
-        let Some(ours) = library.answer(call) else {
-            return Ok(answer);
-        };
+        let ours = library.answer(call);
         let ours = ours.map_err(|damage| self.mismatch(call, vec![("library", damage.0)]))?;
         self.same(call, "answer of the library", &answer, &ours)?;
-        if self.plain.state != library.held.state || self.plain.page != library.held.page {
-            let work = (&self.plain.state.work, &library.held.state.work);
+        if self.plain.state != library.state || self.plain.page != library.page {
+            let work = (&self.plain.state.work, &library.state.work);
             return Err(self.differ(call, "what the library leaves", &work.0, &work.1));
         }
         let [accepted, refused] = library_names(call);
@@ -169,18 +217,19 @@ impl Pair {
         self.same(call, "list and pending records", &ours, &rust)
     }
 
-    /// The calls that read: the separator, the scope of keys beside the bounds, and now and then, for it is slow, every
-    /// pending record by twin and part.
+    /// The scope of keys at, below and above the bounds.
     pub fn read(&mut self, rng: &mut Rng, tally: &mut Tally) -> Result<(), Mismatch> {
         let mut keys = vec![[0; 32], [0xff; 32], rng.key()];
         for key in [self.plain.state.work.cutoff, self.plain.state.work.last] {
             keys.extend([key, made::below(&key), made::above(&key)]);
         }
+        self.read_bounds(keys, tally)
+    }
+
+    /// The calls that read the work record alone.
+    fn read_bounds(&mut self, keys: Vec<Key>, tally: &mut Tally) -> Result<(), Mismatch> {
         let mut calls: Vec<Call> = keys.into_iter().map(|key| Call::Scope { key }).collect();
         calls.push(Call::Separator);
-        if rng.between(0, 7) == 0 {
-            calls.push(Call::Dump);
-        }
         for call in calls {
             let answer = self.answer(&call, tally)?;
             let rust = self.rust.answer(&call);

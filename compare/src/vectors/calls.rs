@@ -80,15 +80,6 @@ pub struct Instead {
     pub dirty: Option<usize>,
 }
 
-/// What a call has to do with the sequence's work.
-#[derive(PartialEq)]
-pub enum UseOfWork {
-    Makes,
-    Changes,
-    Reads,
-    None,
-}
-
 impl Call {
     /// The call's name in the text form.
     pub fn name(&self) -> &'static str {
@@ -107,19 +98,6 @@ impl Call {
             Call::PageValuesSize { .. } => "page_values_size",
             Call::PageGet { .. } => "page_get",
             Call::Separate { .. } => "separate",
-        }
-    }
-
-    pub fn use_of_work(&self) -> UseOfWork {
-        match self {
-            Call::Open { .. } => UseOfWork::Makes,
-            Call::Ingest { .. } | Call::Digest { .. } => UseOfWork::Changes,
-            Call::Next { .. } | Call::Uncut { .. } => UseOfWork::Changes,
-            Call::Twin { .. } | Call::Scope { .. } => UseOfWork::Reads,
-            Call::Separator | Call::Dump => UseOfWork::Reads,
-            Call::PageKey { .. } | Call::PageValue { .. } => UseOfWork::None,
-            Call::PageValuesSize { .. } | Call::PageGet { .. } => UseOfWork::None,
-            Call::Separate { .. } => UseOfWork::None,
         }
     }
 

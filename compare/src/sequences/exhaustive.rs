@@ -1,0 +1,106 @@
+//! `compare exhaustive CALLS`: every sequence of up to so many calls over four keys and six value sizes, from five openings.
+//! A refused call changes nothing, so no sequence goes on behind one: what would follow is a shorter sequence.
+
+use super::pair::Pair;
+use crate::oracle::Key;
+use crate::plain::digest::{asked, TICKET};
+use crate::plain::page::{body, build, Record};
+use crate::plain::pending;
+use crate::random::{Mismatch, Tally};
+use crate::vectors::calls::{Base, Call, Change, Instead};
+
+const SIZES: [usize; 6] = [0, 989, 990, 1330, 1331, 1332];
+const FIRST_BYTES: [u8; 4] = [0x10, 0x13, 0x80, 0xe0];
+const CUTOFF: u8 = 0xf0;
+const LIST: usize = 121;
+const STORE: usize = 12000;
+
+fn key(first: u8) -> Key {
+    let mut key = [0; 32];
+    key[0] = first;
+    key
+}
+
+pub fn run(calls: usize, tally: &mut Tally) -> Result<(), Mismatch> {
+    for opening in openings() {
+        let mut pair = Pair::new();
+        pair.run(opening, None, tally)?;
+        go_on(&pair, calls, tally)?;
+    }
+    Ok(())
+}
+
+fn go_on(pair: &Pair, calls: usize, tally: &mut Tally) -> Result<(), Mismatch> {
+    for call in next_calls(pair) {
+        let mut next = pair.fork();
+        if next.run_either(call, tally)? && calls > 1 {
+            go_on(&next, calls - 1, tally)?;
+        }
+    }
+    Ok(())
+}
+
+/// No base; with and without a cutoff an empty base, and one with two flagged records.
+fn openings() -> Vec<Call> {
+    let mut openings = vec![opening(None, None)];
+    for records in [vec![], FIRST_BYTES[1..3].iter().map(record).collect()] {
+        let page = build(&records);
+        for cutoff in [None, Some(key(CUTOFF))] {
+            let (page, separator) = (page.clone(), [0; 32]);
+            openings.push(opening(Some(Base { page, separator }), cutoff));
+        }
+    }
+    openings
+}
+
+fn opening(base: Option<Base>, cutoff: Option<Key>) -> Call {
+    Call::Open {
+        base,
+        cutoff,
+        list: LIST,
+        store: STORE,
+    }
+}
+
+fn record(first: &u8) -> Record {
+    Record {
+        key: key(*first),
+        value: vec![*first; 990],
+        flag: true,
+    }
+}
+
+/// Every change of every key, a digest with just the room that it asks for, cutoff removal, and two next bases.
+fn next_calls(pair: &Pair) -> Vec<Call> {
+    let instead = Instead::default;
+    let mut calls = Vec::new();
+    for first in FIRST_BYTES {
+        let puts = SIZES.map(|size| Change::Put {
+            value: vec![first ^ 0x55; size],
+            flag: size % 2 == 1,
+        });
+        for change in puts.into_iter().chain([Change::Delete]) {
+            calls.push(Call::Ingest {
+                key: key(first),
+                change,
+                instead: instead(),
+            });
+        }
+    }
+    let pages = asked(body(&pending::records(&pair.plain.state, &pair.plain.page)));
+    calls.push(Call::Digest {
+        area: pages * 4096,
+        tickets: pages * TICKET,
+        instead: instead(),
+    });
+    calls.push(Call::Uncut { instead: instead() });
+    for (records, cutoff) in [(vec![], Some([0xff; 32])), (vec![record(&CUTOFF)], None)] {
+        let (page, separator) = (build(&records), key(CUTOFF));
+        calls.push(Call::Next {
+            base: Base { page, separator },
+            cutoff,
+            instead: instead(),
+        });
+    }
+    calls
+}
