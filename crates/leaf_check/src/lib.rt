@@ -108,7 +108,7 @@ fn absent_zero(work: Work) -> bool
     one & (two & three)
 }
 
-fn record_right(work: Work) -> bool
+pub fn record_right(work: Work) -> bool
     ensures { λ r. ⌜ r ≡ recordRight work ⌝ }
 {
     marks_right(work) & (floor_right(work) & absent_zero(work))
@@ -209,7 +209,7 @@ fn rest_right(work: Work, pass: Pass, bounds: Bounds, page: &[u8], n: usize) -> 
 }
 
 // Whether the entries come to what the work record says.
-fn is_settled(
+pub fn is_settled(
     work: Work,
     pass: Pass,
     bounds: Bounds,
@@ -240,7 +240,7 @@ pub fn records_in(page: &[u8], size: usize) -> usize
     leaf_node::count_of(page)
 }
 
-fn bounds_of(work: Work, size: usize) -> Bounds
+pub fn bounds_of(work: Work, size: usize) -> Bounds
     requires { ⌜ PageSize size ⌝ }
     ensures { λ r. ⌜ r ≡ boundsOf size work ⌝ }
 {
@@ -252,7 +252,7 @@ fn bounds_of(work: Work, size: usize) -> Bounds
     }
 }
 
-fn begin(work: Work) -> Pass
+pub fn begin(work: Work) -> Pass
     ensures { λ r. ⌜ r ≡ begun (separatorOf work) ⌝ }
 {
     let separator = leaf_work::separator(work);
@@ -326,7 +326,7 @@ pub fn regard(work: Work, page: &[u8]) -> &[u8]
 }
 
 // Nos. 1 to 6: the lent page, where the work reads it.
-fn page_verdict(work: Work, page: &[u8], size: usize) -> u8
+pub fn page_verdict(work: Work, page: &[u8], size: usize) -> u8
     requires { ⌜ PageSize size ⌝ }
     ensures { λ r. ⌜ r ≡ oneOf (readsBase work) (keysVerdict size (now (page .entry)) (work .latest) (cutoffOf work)) 0 ⌝ }
 {

@@ -1,0 +1,138 @@
+// The list as a lent slice of entries, each a plain struct: the functions that read, insert, split and drain entries. The prover's own walk
+// does not cover a slice of structs, so each of them is walked by hand.
+use leaf_passed::Passing;
+use leaf_passed::Seek;
+use leaf_passed::pass_one;
+use leaf_passed::seek_one;
+use leaf_work::Entry;
+ghost use mathlib.Core.Path.{_≡_};
+ghost use mathlib.Core.List.{map};
+ghost use Prim.Native.Nat.{_≤_};
+ghost use lib.ListN.{length, set, take};
+ghost use Rattle.leaf_work.specs.Lent.{blank};
+ghost use Rattle.leaf_work.specs.Flat.{rowOf};
+ghost use Rattle.leaf_passed.specs.Passed.{PassingOn, passedOver};
+ghost use Rattle.leaf_passed.specs.Sought.{soughtOver};
+ghost use Rattle.leaf_entries.specs.Lists.{laid, narrowed, gathered, drained};
+
+// ---- one entry, by value
+
+// An entry's numbers.
+fn row_of(entry: Entry) -> [usize; 5]
+    ensures { λ r. ⌜ r ≡ rowOf entry ⌝ }
+{
+    let kind = entry.kind as usize;
+    let flag = entry.flag as usize;
+    [kind, flag, entry.from, entry.to, entry.sum]
+}
+
+// The entry of five numbers and a key.
+fn entry_of(row: [usize; 5], key: [u8; 32]) -> Entry
+    ensures { λ r. ⌜ r ≡ narrowed row key ⌝ }
+{
+    let kind = (row[0] % 256) as u8;
+    let flag = (row[1] % 256) as u8;
+    Entry {
+        kind: kind,
+        flag: flag,
+        from: row[2],
+        to: row[3],
+        sum: row[4],
+        key: key,
+    }
+}
+
+// An unused entry.
+fn blank_entry() -> Entry
+    ensures { λ r. ⌜ r ≡ blank ⌝ }
+{
+    Entry {
+        kind: 0,
+        flag: 0,
+        from: 0,
+        to: 0,
+        sum: 0,
+        key: [0u8; 32],
+    }
+}
+
+// ---- the list is read
+
+// The pass over all entries.
+pub fn pass_entries(list: &[Entry], page: &[u8], start: Passing) -> Passing
+    requires { ⌜ PassingOn start (now page) ⌝ }
+    ensures { λ r. ⌜ (r ≡ passedOver (now (page .entry)) start (now (list .entry))) × (PassingOn r (now (page .entry))) ⌝ }
+{
+    let mut at = start;
+    let mut i = 0;
+    while i < list.len() {
+        let entry = list[i];
+        at = pass_one(at, entry, page);
+        i += 1;
+    }
+    at
+}
+
+// The search over all entries.
+pub fn seek_entries(list: &[Entry], start: Seek) -> Seek
+    ensures { λ r. ⌜ r ≡ soughtOver start (now (list .entry)) ⌝ }
+{
+    let mut at = start;
+    let mut i = 0;
+    while i < list.len() {
+        let entry = list[i];
+        at = seek_one(at, entry);
+        i += 1;
+    }
+    at
+}
+
+// ---- the list is changed
+
+// Lists an entry, where its place lies in the list.
+pub fn insert(list: &mut [Entry], at: usize, entry: Entry)
+    ensures { λ _. ⌜ now (list .exit) ≡ set (now (list .entry)) at entry ⌝ }
+{
+    if at < list.len() {
+        list[at] = entry;
+    }
+}
+
+// Entries are unused from index `from` on.
+pub fn drain(list: &mut [Entry], from: usize)
+    ensures { λ _. ⌜ now (list .exit) ≡ drained from (now (list .entry)) ⌝ }
+{
+    let mut i = from;
+    while i < list.len() {
+        list[i] = blank_entry();
+        i += 1;
+    }
+}
+
+// ---- the list as the core takes it
+
+// The first `count` entries, as rows and beside them keys.
+pub fn split(list: &[Entry], rows: &mut [[usize; 5]], keys: &mut [[u8; 32]], count: usize)
+    requires { ⌜ (count ≤ length (now list)) × (count ≤ length (now rows)) × (count ≤ length (now keys)) ⌝ }
+    ensures { λ _. ⌜ (now (rows .exit) ≡ laid (map rowOf (take count (now (list .entry)))) (now (rows .entry))) × (now (keys .exit) ≡ laid (map (λ e. e .key) (take count (now (list .entry)))) (now (keys .entry))) ⌝ }
+{
+    let mut i = 0;
+    while i < count {
+        let entry = list[i];
+        rows[i] = row_of(entry);
+        keys[i] = entry.key;
+        i += 1;
+    }
+}
+
+// The first `count` rows and keys, as entries again.
+pub fn gather(list: &mut [Entry], rows: &[[usize; 5]], keys: &[[u8; 32]], count: usize)
+    requires { ⌜ (count ≤ length (now list)) × (count ≤ length (now rows)) × (count ≤ length (now keys)) ⌝ }
+    ensures { λ _. ⌜ now (list .exit) ≡ laid (gathered (take count (now (rows .entry))) (take count (now (keys .entry)))) (now (list .entry)) ⌝ }
+{
+    let mut i = 0;
+    while i < count {
+        list[i] = entry_of(rows[i], keys[i]);
+        i += 1;
+    }
+}

@@ -1,0 +1,4 @@
+-- Laws on plain values, for the functions' proofs.
+pub mod Beginnings
+pub mod Seeking
+pub mod Steps

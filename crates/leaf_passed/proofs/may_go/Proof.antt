@@ -1,0 +1,18 @@
+use Rattle.leaf_passed.proofs.Beginnings.{the-record-decides}
+use borrow.Author.Needs.{needs}
+use Rattle.leaf_passed.proofs.may_go.Statement.{statement}
+use Rattle.leaf_passed.proofs.may_go.Tie as tie
+use Rattle.leaf_passed.proofs.may_go.Reads as reads
+use Rattle.leaf_passed.proofs.may_go.Lts as lts
+use Rattle.leaf_check.proofs.record_right.Reads as record-right-reads
+
+-- src/lib.rt:59:12
+record-right-requires : tie.Need-record-right-requires
+record-right-requires c κs = search needs
+
+-- src/lib.rt:55:1
+returns : tie.Need-returns
+returns c = search (the-record-decides, needs)
+
+pub may-go-spec : {M : Type 1} → statement M
+may-go-spec = tie.close (tie.spec record-right-requires returns)

@@ -1,0 +1,21 @@
+use Rattle.leaf_passed.proofs.Steps.{the-numbers-decide}
+use borrow.Author.Needs.{needs}
+use Rattle.leaf_passed.proofs.room_fits.Statement.{statement}
+use Rattle.leaf_passed.proofs.room_fits.Tie as tie
+use Rattle.leaf_passed.proofs.room_fits.Reads as reads
+use Rattle.leaf_passed.proofs.room_fits.Lts as lts
+
+-- src/lib.rt:143:18
+sub-least : tie.Need-sub-least
+sub-least c = search needs
+
+-- src/lib.rt:143:17
+add-least : tie.Need-add-least
+add-least c = search needs
+
+-- src/lib.rt:139:1
+returns : tie.Need-returns
+returns c = search (the-numbers-decide, needs)
+
+pub room-fits-spec : {M : Type 1} → statement M
+room-fits-spec = tie.close (tie.spec sub-least add-least returns)
