@@ -2,3 +2,4 @@
 pub mod Beginnings
 pub mod Seeking
 pub mod Steps
+pub mod Verdicts
