@@ -1,1 +1,3 @@
 -- Laws on plain values, for the functions' proofs.
+pub mod Folded
+pub mod Locals

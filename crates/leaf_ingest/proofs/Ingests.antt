@@ -33,8 +33,8 @@ use Rattle.leaf_ingest.specs.declared.Kept.{Kept}
 use Rattle.leaf_ingest.specs.declared.Ingested.{Ingested}
 use Rattle.leaf_ingest.specs.declared.Report.the-variants.{Refused}
 use Rattle.leaf_ingest.specs.Reply.{changeOf, replyOf}
-use Rattle.leaf_ingest.specs.Steps.{Taken, addedBy, spliced, insertEntries, chunkEntries, entriesWith, rowsOf, keysOf, reportBy, workWith, Room, Stepped, rowsWith, Leaves, Takes}
-use Rattle.leaf_ingest.proofs.Numbers.{the-list-is-as-long, range-length, range-total, added-records, pending-is, pending-bytes-are}
+use Rattle.leaf_ingest.specs.Steps.{Taken, stepVerdict, addedBy, spliced, insertEntries, chunkEntries, entriesWith, rowsOf, keysOf, reportBy, workWith, Room, Stepped, rowsWith, Leaves, Takes}
+use Rattle.leaf_ingest.proofs.Numbers.{the-list-is-as-long, the-number-is-that-of-the-call, range-length, range-total, added-records, pending-is, pending-bytes-are}
 use Rattle.leaf_ingest.proofs.Splicing.{map-spliced, keys-of-entries, the-list-is-spliced}
 
 -- ---- what is required
@@ -114,6 +114,12 @@ module _ (size : ℕ) (w : Work) (rows keys : List (List ℕ)) (store page : Lis
 
   the-list : listOf rows keys ≡ entriesOf rows keys
   the-list = rows-and-keys-agree rows keys (t .ready .list-there) .1
+
+  pub the-number-is-that-of-the-ingest : (k : List ℕ) (change : taken.Change) (value : List ℕ) (kept : Kept) → Taken w page k kept → (v : ℕ)
+      → v ≡ stepVerdict size w kept (count page) k (addedBy change) (length (valueOf (changeOf change value))) (length rows) (length store)
+      → v ≡ ingestVerdict size w (listOf rows keys) store page k (changeOf change value) 0
+  the-number-is-that-of-the-ingest k change value kept g v q =
+      the-number-is-that-of-the-call w page k kept g (count page) refl size (listOf rows keys) store change value v (rw (the-list-is-as-long size w rows keys store page t) q)
 
   module _ (k : List ℕ) (change : taken.Change) (value : List ℕ) (v : ℕ) (e : v ≡ ingestVerdict size w (listOf rows keys) store page k (changeOf change value) 0) where
     abbrev c : Option Change

@@ -26,7 +26,7 @@ use Rattle.leaf_ingest.specs.declared.Change as taken
 use Rattle.leaf_ingest.specs.declared.Change.the-variants.{Put, Delete}
 use Rattle.leaf_ingest.specs.declared.Kept.{Kept}
 use Rattle.leaf_ingest.specs.Reply.{changeOf}
-use Rattle.leaf_ingest.specs.Steps.{Base, Taken, Sizes, roomVerdict, stepVerdict, addedBy, Takes}
+use Rattle.leaf_ingest.specs.Steps.{Base, Taken, Sizes, roomVerdict, stepVerdict, Admits, addedBy, Takes}
 
 -- ---- row after row
 
@@ -74,25 +74,38 @@ module _ (w : Work) (z : Kept) (n a len entries bytes : ℕ) where
 
 -- ---- what is required, and the number by what the key takes up
 
-module _ (size : ℕ) (w : Work) (list : List Entry) (store page : List ℕ) (t : Takes size w list store page) (n : ℕ) (e : n ≡ count page) where
-  pub what-takes-an-ingest-has-a-base : Base w page n
-  what-takes-an-ingest-has-a-base =
-      let r = t .ready in
-      rw e (record { counted = refl; low-in = r .low-in; laid = r .laid; rising = r .rising; short = r .page-short })
+module _ (size : ℕ) (w : Work) (page : List ℕ) (t : Admits size w page) (n : ℕ) (e : n ≡ count page) where
+  pub what-admits-an-ingest-has-a-base : Base w page n
+  what-admits-an-ingest-has-a-base = rw e (t .base)
 
   pub what-is-taken-up-is-small : n ≤ 32767 → (k : List ℕ) (z : Kept) → Taken w page k z → (a : ℕ) → a ≤ 1 → Sizes w z a
   what-is-taken-up-is-small m k z g a o =
-      let r = t .ready in
       record {
         from = g .from;
         to = g .to;
         few = omega (arith, g .upto);
         taken-few = g .taken-few;
         rest-few = g .rest-few;
-        count-few = omega (arith, r .list-room, r .list-short);
-        bytes-few = omega (arith, r .store-room, r .store-short);
+        count-few = t .count-few;
+        bytes-few = t .bytes-few;
         one = o;
       }
+
+  pub the-number-is-that-of-the-step : (k : List ℕ) (z : Kept) (change : taken.Change) (value : List ℕ) (a : ℕ) (x : List ℕ) (entries bytes v : ℕ) → a ≡ addedBy change
+      → x ≡ valueOf (changeOf change value) → v ≡ stepVerdict size w z n k a (length x) entries bytes
+      → v ≡ stepVerdict size w z (count page) k (addedBy change) (length (valueOf (changeOf change value))) entries bytes
+  the-number-is-that-of-the-step k z change value a x entries bytes v f g h = rw (← e, ← f, ← g) h
+
+pub what-takes-an-ingest-admits-it : (size : ℕ) (w : Work) (list : List Entry) (store page : List ℕ) → Takes size w list store page → Admits size w page
+what-takes-an-ingest-admits-it size w list store page t =
+    let r = t .ready in
+    record {
+      sized = t .sized;
+      regardable = t .regardable;
+      base = record { counted = refl; low-in = r .low-in; laid = r .laid; rising = r .rising; short = r .page-short };
+      count-few = omega (arith, r .list-room, r .list-short);
+      bytes-few = omega (arith, r .store-room, r .store-short);
+    }
 
 pub what-is-taken-up-is-of-the-base : (w : Work) (page k : List ℕ) (z : Kept) (n : ℕ) → n ≡ count page → Taken w page k z → z .low ≤ n
 what-is-taken-up-is-of-the-base w page k z n e t = omega (arith, t .upto)
@@ -123,16 +136,13 @@ module _ (w : Work) (page k : List ℕ) (z : Kept) (t : Taken w page k z) (n : �
   pub pending-bytes-are : (c : Option Change) → bytesAfter w page k c + total (restAfter w page k) ≡ w .bytes + z .taken + length (valueOf c) + z .rest
   pending-bytes-are c = rw (range-total, range-total, t .taken-is, t .rest-is)
 
-  pub the-number-is-that-of-the-call : (size : ℕ) (rows keys : List (List ℕ)) (store : List ℕ) → Takes size w (listOf rows keys) store page → (change : taken.Change) (value : List ℕ) (a : ℕ) (x : List ℕ) (v : ℕ)
-      → a ≡ addedBy change → x ≡ valueOf (changeOf change value) → v ≡ stepVerdict size w z n k a (length x) (length rows) (length store)
-      → v ≡ ingestVerdict size w (listOf rows keys) store page k (changeOf change value) 0
+  pub the-number-is-that-of-the-call : (size : ℕ) (list : List Entry) (store : List ℕ) (change : taken.Change) (value : List ℕ) (v : ℕ)
+      → v ≡ stepVerdict size w z n k (addedBy change) (length (valueOf (changeOf change value))) (length list) (length store)
+      → v ≡ ingestVerdict size w list store page k (changeOf change value) 0
   unfolding ingestVerdict stepVerdict
-  the-number-is-that-of-the-call size rows keys store s change value a x v g h q =
+  the-number-is-that-of-the-call size list store change value v q =
       rw (
         q,
-        g,
-        h,
-        the-list-is-as-long size w rows keys store page s,
         light-by-length size (changeOf change value),
         pending-is (changeOf change value),
         pending-bytes-are (changeOf change value),

@@ -92,6 +92,14 @@ roomVerdict w z n added len entries bytes =
 unfoldable pub stepVerdict : ℕ → Work → Kept → ℕ → List ℕ → ℕ → ℕ → ℕ → ℕ → ℕ
 stepVerdict size w z n k added len entries bytes = keyVerdict size w k len (roomVerdict w z n added len entries bytes)
 
+-- what an ingest is admitted by: a work with its base
+pub record Admits (size : ℕ) (w : Work) (page : List ℕ) : Type 0 where
+  pub sized : PageSize size
+  pub regardable : Regardable size page
+  pub base : Base w page (count page)
+  pub count-few : w .count ≤ 4096
+  pub bytes-few : w .bytes ≤ 65536
+
 -- how many records a change lists
 abbrev pub addedBy : taken.Change → ℕ
 addedBy (Put flag) = 1

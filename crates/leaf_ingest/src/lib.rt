@@ -24,15 +24,15 @@ ghost use mathlib.Core.Bool.{true};
 ghost use Prim.Native.Nat.{_+_, _-_, _≤_};
 ghost use lib.ListN.{length};
 ghost use Rattle.leaf_node.specs.Limits.{PageSize};
+ghost use Rattle.leaf_node.specs.Page.{count};
 ghost use Rattle.leaf_node.specs.Steps.{Laid, Readable};
 ghost use Rattle.leaf_work.specs.Tests.{bit};
 ghost use Rattle.leaf_work.specs.Lent.{regarded};
 ghost use Rattle.leaf_work.specs.Flat.{listOf, keysAfter};
 ghost use Rattle.leaf_work.specs.TakingUp.{valueOf, newEntries};
-ghost use Rattle.leaf_work.specs.Verdict.{ingestVerdict};
 ghost use Rattle.leaf_work.specs.Outcome as outcome;
 ghost use Rattle.leaf_ingest.specs.Reply.{changeOf, replyOf};
-ghost use Rattle.leaf_ingest.specs.Steps.{Base, KeptAt, Taken, Sizes, roomVerdict, stepVerdict, addedBy, spliced, chunkEntries, insertEntries, entriesWith, rowsOf, keysOf, reportBy, workWith, Room, Stepped, rowsWith, Leaves, Takes};
+ghost use Rattle.leaf_ingest.specs.Steps.{Base, KeptAt, Taken, Sizes, roomVerdict, stepVerdict, addedBy, spliced, chunkEntries, insertEntries, entriesWith, rowsOf, keysOf, reportBy, workWith, Room, Stepped, rowsWith, Leaves, Admits, Takes};
 
 // A new value with its flag, or a deletion. The value's bytes stand beside it; a deletion ignores them.
 pub enum Change {
@@ -72,7 +72,7 @@ pub struct Admitted {
 // ---- the change
 
 // How many records a change lists.
-fn added(change: Change) -> usize
+pub fn added(change: Change) -> usize
     ensures { λ r. ⌜ (r ≡ addedBy change) × (r ≤ 1) ⌝ }
 {
     match change {
@@ -82,7 +82,7 @@ fn added(change: Change) -> usize
 }
 
 // The bytes of a change; a deletion has none.
-fn value_of(change: Change, value: &[u8]) -> &[u8]
+pub fn value_of(change: Change, value: &[u8]) -> &[u8]
     ensures { λ r. ⌜ now r ≡ valueOf (changeOf change (now (value .entry))) ⌝ }
 {
     match change {
@@ -183,20 +183,20 @@ fn verdict(
     room_verdict(work, kept, n, added, len, entries, bytes)
 }
 
-// The number of an ingest whose lent things earn none, and what its key takes up.
-fn admit(
+// The number of an ingest into a list with so many entries and a store of so many bytes, where the lent things earn none; and what its key
+// takes up.
+pub fn admit(
     work: Work,
-    rows: &[[usize; 5]],
-    keys: &[[u8; 32]],
-    store: &[u8],
     page: &[u8],
     key: &[u8; 32],
     change: Change,
     value: &[u8],
+    entries: usize,
+    bytes: usize,
     size: usize,
 ) -> Admitted
-    requires { ⌜ Takes size work (listOf (now rows) (now keys)) (now store) (now page) ⌝ }
-    ensures { λ r. ⌜ (r .number ≡ ingestVerdict size work (listOf (now (rows .entry)) (now (keys .entry))) (now (store .entry)) (now (page .entry)) (now (key .entry)) (changeOf change (now (value .entry))) 0) × (Taken work (now (page .entry)) (now (key .entry)) (r .kept)) ⌝ }
+    requires { ⌜ Admits size work (now page) ⌝ }
+    ensures { λ r. ⌜ (r .number ≡ stepVerdict size work (r .kept) (count (now (page .entry))) (now (key .entry)) (addedBy change) (length (valueOf (changeOf change (now (value .entry))))) entries bytes) × (Taken work (now (page .entry)) (now (key .entry)) (r .kept)) ⌝ }
 {
     let n = records_in(page, size);
     let kept = keep_up_to(work, page, n, key);
@@ -208,8 +208,8 @@ fn admit(
         key,
         added(change),
         new.len(),
-        rows.len(),
-        store.len(),
+        entries,
+        bytes,
         size,
     );
     Admitted {
@@ -282,7 +282,7 @@ fn put_entries(
 }
 
 // A flagged record that is dropped is reported where one was taken up before it.
-fn report_of(low: usize, page: &[u8], kept: Kept) -> Report
+pub fn report_of(low: usize, page: &[u8], kept: Kept) -> Report
     requires { ⌜ (kept .dropped ≡ true → Readable (now page) (kept .stop)) ⌝ }
     ensures { λ r. ⌜ replyOf r ≡ reportBy low (now (page .entry)) (kept .stop) (kept .dropped) ⌝ }
 {
@@ -299,7 +299,7 @@ fn report_of(low: usize, page: &[u8], kept: Kept) -> Report
     Report::Quiet
 }
 
-fn ingest_work(
+pub fn ingest_work(
     work: Work,
     key: &[u8; 32],
     kept: Kept,
@@ -364,7 +364,16 @@ fn ingest_ready(
     requires { ⌜ Takes size work (listOf (now rows) (now keys)) (now store) (now page) ⌝ }
     ensures { λ r. ⌜ Leaves (outcome.ingestOn size work (listOf (now (rows .entry)) (now (keys .entry))) (now (store .entry)) (now (page .entry)) (now (key .entry)) (changeOf change (now (value .entry))) 0) (work .used) (newEntries work (now (page .entry)) (now (key .entry)) (changeOf change (now (value .entry)))) (now (rows .entry)) (now (keys .entry)) r (now (rows .exit)) (now (keys .exit)) (now (store .exit)) ⌝ }
 {
-    let a = admit(work, rows, keys, store, page, key, change, value, size);
+    let a = admit(
+        work,
+        page,
+        key,
+        change,
+        value,
+        rows.len(),
+        store.len(),
+        size,
+    );
     if a.number != 0 {
         return Ingested {
             reply: Report::Refused(a.number),

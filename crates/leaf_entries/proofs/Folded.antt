@@ -1,0 +1,46 @@
+-- A list gone through by any step: what is carried after its first entries. The pass and the search are such.
+use mathlib.Core.Path.{_≡_, refl, _∙_, ap}
+use mathlib.Core.List.{List, [], _∷_}
+use Prim.Native.Nat.{ℕ, zero, suc, _+_, _<_}
+use native.Mathlib.Nat.{not-suc-le-zero, le-of-suc-le-suc}
+use native.Mathlib.Numerals.{add-one}
+use lib.ListN.{length, getD, take}
+use lib.Seq.{take-length}
+use Rattle.leaf_work.specs.declared.Entry.{Entry}
+use Rattle.leaf_passed.specs.declared.Passing.{Passing}
+use Rattle.leaf_passed.specs.declared.Seek.{Seek}
+use Rattle.leaf_passed.specs.Passed.{passedOne, passedOver}
+use Rattle.leaf_passed.specs.Sought.{soughtOne, soughtOver}
+
+module _ {A S : Type 0} (step : S → A → S) where
+  unfoldable pub folded : S → List A → S
+  folded s [] = s
+  folded s (x ∷ xs) = folded (step s x) xs
+
+  pub folding-none : (s : S) (l : List A) → folded s (take 0 l) ≡ s
+  unfolding folded
+  folding-none s [] = refl
+  folding-none s (x ∷ xs) = refl
+
+  folding-the-next : (s : S) (l : List A) (i : ℕ) (d : A) → i < length l → folded s (take (suc i) l) ≡ step (folded s (take i l)) (getD l i d)
+  unfolding folded
+  folding-the-next s [] i d h = absurd (not-suc-le-zero h)
+  folding-the-next s (x ∷ []) zero d h = refl
+  folding-the-next s (x ∷ y ∷ xs) zero d h = refl
+  folding-the-next s (x ∷ xs) (suc i) d h = folding-the-next (step s x) xs i d (le-of-suc-le-suc h)
+
+  pub folding-one-more : (s : S) (l : List A) (i : ℕ) (d : A) → i < length l → folded s (take (i + 1) l) ≡ step (folded s (take i l)) (getD l i d)
+  folding-one-more s l i d h = ap (λ (k : ℕ). folded s (take k l)) (add-one i) ∙ folding-the-next s l i d h
+
+  pub folding-all : (s : S) (l : List A) → folded s (take (length l) l) ≡ folded s l
+  folding-all s l = ap (folded s) (take-length l)
+
+pub passing-folds : (page : List ℕ) (at : Passing) (l : List Entry) → folded (passedOne page) at l ≡ passedOver page at l
+unfolding folded
+passing-folds page at [] = refl
+passing-folds page at (e ∷ l) = passing-folds page (passedOne page at e) l
+
+pub seeking-folds : (s : Seek) (l : List Entry) → folded soughtOne s l ≡ soughtOver s l
+unfolding folded
+seeking-folds s [] = refl
+seeking-folds s (e ∷ l) = seeking-folds (soughtOne s e) l
