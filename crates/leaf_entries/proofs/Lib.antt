@@ -1,3 +1,4 @@
 -- Laws on plain values, for the functions' proofs.
 pub mod Folded
+pub mod Laying
 pub mod Locals

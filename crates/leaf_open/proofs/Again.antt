@@ -127,17 +127,17 @@ three-rows true false c v = refl
 three-rows false b c v = refl
 
 module _ (size : ℕ) (w : Work) (list : List Entry) (store : List ℕ) where
-  next-base-by-steps : (p s : List ℕ) (c : Option (List ℕ))
+  pub next-base-by-steps : (p s : List ℕ) (c : Option (List ℕ))
       → nextBaseVerdict size w list store p s c ≡ first (baseVerdict size p s c) (first (closedVerdict size w list store) (followsVerdict w p s (length list) (length store)))
   unfolding nextBaseVerdict closedVerdict followsVerdict
   next-base-by-steps p s c =
       ap (first (baseVerdict size p s c)) (three-rows (roomRight size (length list) (length store)) (not (isOpen w)) (sound size w list store []) _)
 
-  remove-by-steps : removeVerdict size w list store ≡ first (closedVerdict size w list store) (unless 9 (isWaiting w) 0)
+  pub remove-by-steps : removeVerdict size w list store ≡ first (closedVerdict size w list store) (unless 9 (isWaiting w) 0)
   unfolding removeVerdict closedVerdict
   remove-by-steps = three-rows (roomRight size (length list) (length store)) (not (isOpen w)) (sound size w list store []) _
 
-  closed-room : closedVerdict size w list store ≡ 0 → roomRight size (length list) (length store) ≡ true
+  pub closed-room : closedVerdict size w list store ≡ 0 → roomRight size (length list) (length store) ≡ true
   unfolding closedVerdict
   closed-room z = passed 6 (roomRight size (length list) (length store)) _ z .0
 

@@ -28,7 +28,7 @@ module _ (size : ℕ) (based : Bool) (page sep : List ℕ) (cut : Bool) (cutoff 
   a-base-has-its-number r h e = rw h e
 
 module _ (size : ℕ) (page sep cutoff : List ℕ) (list : List Entry) (store : List ℕ) where
-  base-then-room : (based cut : Bool) → openVerdict size (openingOf based page sep cut cutoff) list store
+  pub base-then-room : (based cut : Bool) → openVerdict size (openingOf based page sep cut cutoff) list store
       ≡ first (openBaseVerdict size based page sep cut cutoff) (unless 7 (roomRight size (length list) (length store)) 0)
   unfolding openVerdict openingOf
   base-then-room true cut = refl
@@ -74,7 +74,7 @@ pub fresh-work-is : (based : Bool) (sep : List ℕ) (cut : Bool) (cutoff : List 
     }) (freshWork based (oneOf based sep zeroKey) cut cutoff)
 fresh-work-is based sep cut cutoff lowest kept b c e₁ e₂ e₃ e₄ = rw (e₁, e₂, e₃, e₄)
 
-fresh-work-is-open : (size : ℕ) (based : Bool) (page sep : List ℕ) (cut : Bool) (cutoff : List ℕ) (list : List Entry) (store : List ℕ)
+pub fresh-work-is-open : (size : ℕ) (based : Bool) (page sep : List ℕ) (cut : Bool) (cutoff : List ℕ) (list : List Entry) (store : List ℕ)
     → openVerdict size (openingOf based page sep cut cutoff) list store ≡ 0
     → freshWork based (oneOf based sep zeroKey) cut cutoff ≡ openWork (openingOf based page sep cut cutoff)
 unfolding openVerdict openingOf
@@ -93,11 +93,11 @@ blank-keys zero = refl
 blank-keys (suc n) = ap (λ (r : List (List ℕ)). zeroKey ∷ r) (blank-keys n)
 
 module _ (size : ℕ) (x : Opening) (w : Work) (list : List Entry) (store : List ℕ) (v : ℕ) (e : v ≡ openVerdict size x list store) where
-  refused-outcome : (v ≡ 0 → ⊥) → openOf size x w list store ≡ record { reply = Refused v; work = w; list = list; store = store }
+  pub refused-outcome : (v ≡ 0 → ⊥) → openOf size x w list store ≡ record { reply = Refused v; work = w; list = list; store = store }
   unfolding openOf
   refused-outcome h = let f : eqb (openVerdict size x list store) 0 ≡ false = rw (← e) (ne-eqb v 0 h) in rw (f, openOf, e)
 
-  accepted-outcome : v ≡ 0
+  pub accepted-outcome : v ≡ 0
       → openOf size x w list store ≡ record { reply = Accepted; work = openWork x; list = replicate (length list) blank; store = zeros (length store) }
   unfolding openOf
   accepted-outcome z = let f : eqb (openVerdict size x list store) 0 ≡ true = rw (← e) (eq-eqb v 0 z) in rw (f, openOf)

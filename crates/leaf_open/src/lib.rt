@@ -63,7 +63,7 @@ fn key_or_zeros(there: bool, key: &[u8; 32]) -> [u8; 32]
 // ---- opening
 
 // The refusal that an opening's base earns, or a cutoff without one, or 0.
-fn open_base_verdict(
+pub fn open_base_verdict(
     based: bool,
     page: &[u8],
     separator: &[u8; 32],
@@ -109,7 +109,7 @@ fn open_verdict(
 }
 
 // An open work with nothing listed. Without a base its separator is zeros.
-fn fresh_work(based: bool, separator: &[u8; 32], cut: bool, cutoff: &[u8; 32]) -> Work
+pub fn fresh_work(based: bool, separator: &[u8; 32], cut: bool, cutoff: &[u8; 32]) -> Work
     ensures { λ r. ⌜ r ≡ freshWork based (oneOf based (now (separator .entry)) zeroKey) cut (now (cutoff .entry)) ⌝ }
 {
     let lowest = key_or_zeros(based, separator);
@@ -175,7 +175,7 @@ pub fn open(
 // ---- next base and cutoff removal
 
 // What a call answers with its number: the work after it, or where it is refused the work as it was.
-fn reply_of(number: u8, work: Work, after: Work) -> Updated
+pub fn reply_of(number: u8, work: Work, after: Work) -> Updated
     ensures { λ r. ⌜ (r .refusal ≡ replyNumber (changedBy number work after .reply)) × (r .work ≡ changedBy number work after .work) ⌝ }
 {
     if number != 0 {
@@ -215,7 +215,7 @@ fn closed_verdict(
 }
 
 // The refusal of a good page as the next base of a sound work that isn't open, or 0.
-fn follows_verdict(
+pub fn follows_verdict(
     work: Work,
     page: &[u8],
     separator: &[u8; 32],
@@ -268,7 +268,7 @@ fn next_base_verdict(
     follows_verdict(work, page, separator, rows.len(), store.len())
 }
 
-fn next_base_work(work: Work, separator: &[u8; 32], cut: bool, cutoff: &[u8; 32]) -> Work
+pub fn next_base_work(work: Work, separator: &[u8; 32], cut: bool, cutoff: &[u8; 32]) -> Work
     ensures { λ r. ⌜ r ≡ nextBaseWork work (now (separator .entry)) cut (now (cutoff .entry)) ⌝ }
 {
     let latest = *separator;
@@ -332,7 +332,7 @@ fn remove_verdict(
     0
 }
 
-fn remove_work(work: Work) -> Work
+pub fn remove_work(work: Work) -> Work
     ensures { λ r. ⌜ r ≡ removeWork work ⌝ }
 {
     let none = [0u8; 32];

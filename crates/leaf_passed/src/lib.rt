@@ -138,7 +138,7 @@ pub fn pass_one(at: Passing, entry: Entry, page: &[u8]) -> Passing
 
 // ---- what it came to
 
-fn room_fits(entries: usize, bytes: usize, size: usize) -> bool
+pub fn room_fits(entries: usize, bytes: usize, size: usize) -> bool
     requires { ⌜ PageSize size ⌝ }
     ensures { λ r. ⌜ r ≡ roomRight size entries bytes ⌝ }
 {

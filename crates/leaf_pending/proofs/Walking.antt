@@ -31,12 +31,12 @@ use Rattle.leaf_pending.specs.Steps.{rowRecords, Countable, Rest, EntryR
 
 -- ---- the place with an index
 
-nth-left : (xs ys : List Place) (i : ℕ) → i < length xs → nthPlace i (xs ++ ys) ≡ nthPlace i xs
+pub nth-left : (xs ys : List Place) (i : ℕ) → i < length xs → nthPlace i (xs ++ ys) ≡ nthPlace i xs
 nth-left [] ys i h = absurd (omega arith)
 nth-left (x ∷ xs) ys zero h = refl
 nth-left (x ∷ xs) ys (suc i) h = nth-left xs ys i (omega arith)
 
-nth-right : (xs ys : List Place) (i : ℕ) → length xs ≤ i → nthPlace i (xs ++ ys) ≡ nthPlace (i - length xs) ys
+pub nth-right : (xs ys : List Place) (i : ℕ) → length xs ≤ i → nthPlace i (xs ++ ys) ≡ nthPlace (i - length xs) ys
 nth-right [] ys i h = let e : i - 0 ≡ i = omega arith in rw e
 nth-right (x ∷ xs) ys zero h = absurd (omega arith)
 nth-right (x ∷ xs) ys (suc i) h = let e : suc i - suc (length xs) ≡ i - length xs = omega arith in rw e (nth-right xs ys i (omega arith))
@@ -101,7 +101,7 @@ module _ (p row key : List ℕ) where
   unfolding entryPlaces chunkPlaces
   chunk-places n = rw (entryPlaces, ne-eqb (getD row 0 0) 1 n)
 
-  entry-length : length (entryPlaces p (entryOf row key)) ≡ rowRecords row
+  pub entry-length : length (entryPlaces p (entryOf row key)) ≡ rowRecords row
   entry-length = go (eqb (getD row 0 0) 1) refl
     where
       go : (b : Bool) → eqb (getD row 0 0) 1 ≡ b → length (entryPlaces p (entryOf row key)) ≡ rowRecords row

@@ -36,7 +36,7 @@ pub struct TwinPlace {
     pub key: [u8; 32],
 }
 
-fn refused(number: u8) -> TwinPlace
+pub fn refused(number: u8) -> TwinPlace
     ensures { λ r. ⌜ r ≡ twinOut (TwinRefused number) ⌝ }
 {
     TwinPlace {
@@ -81,7 +81,7 @@ fn base_record(page: &[u8], i: usize) -> TwinPlace
 }
 
 // Record i of the base's rest, which begins at `low`.
-fn rest_record(page: &[u8], low: usize, i: usize) -> TwinPlace
+pub fn rest_record(page: &[u8], low: usize, i: usize) -> TwinPlace
     requires { ⌜ Rest (now page) low ⌝ }
     ensures { λ r. ⌜ r ≡ twinOut (nthPlace i (chunkPlaces (now (page .entry)) low (count (now (page .entry))))) ⌝ }
 {
@@ -106,7 +106,7 @@ fn records_of(row: [usize; 5]) -> usize
 }
 
 // Record i of an entry.
-fn entry_record(row: [usize; 5], key: [u8; 32], page: &[u8], i: usize) -> TwinPlace
+pub fn entry_record(row: [usize; 5], key: [u8; 32], page: &[u8], i: usize) -> TwinPlace
     requires { ⌜ (EntryRead (now page) (entryOf row key)) × (i < rowRecords row) ⌝ }
     ensures { λ r. ⌜ r ≡ twinOut (nthPlace i (entryPlaces (now (page .entry)) (entryOf row key))) ⌝ }
 {
@@ -159,7 +159,7 @@ fn cut(bytes: &[u8], offset: usize, len: usize) -> &[u8]
 }
 
 // The bytes at a twin's place, of whichever holds it.
-fn part_at<'a>(place: TwinPlace, store: &'a [u8], page: &'a [u8]) -> &'a [u8]
+pub fn part_at<'a>(place: TwinPlace, store: &'a [u8], page: &'a [u8]) -> &'a [u8]
     requires { ⌜ TwinIn place (now store) (now page) ⌝ }
     ensures { λ r. ⌜ now r ≡ twinPart (now (store .entry)) (now (page .entry)) place ⌝ }
 {

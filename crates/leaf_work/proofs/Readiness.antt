@@ -74,7 +74,7 @@ module _ (size : ℕ) (w : Work) (list : List Entry) (store page : List ℕ) (z 
   pub shapes : All (Shape (w .low) p) es
   shapes = all-map (shape (w .low) p) (every-all (isOperation (w .low) p) es (and-left (every (isOperation (w .low) p) es) _ entries-right))
 
-  blanks : drop (w .used) list ≡ replicate (length (drop (w .used) list)) blank
+  pub blanks : drop (w .used) list ≡ replicate (length (drop (w .used) list)) blank
   blanks = all-blank (every-all isBlank (drop (w .used) list) (and-right (every (isOperation (w .low) p) es) _ entries-right))
 
   values-right : (placed (w .filled) 0 es && every isZero (drop (w .filled) store)) ≡ true

@@ -1,0 +1,4 @@
+-- Laws on plain values, for the functions' proofs.
+pub mod Openings
+pub mod Closed
+pub mod Found

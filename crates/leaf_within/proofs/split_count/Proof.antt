@@ -1,0 +1,16 @@
+use borrow.Author.Needs.{needs}
+use Rattle.leaf_within.proofs.split_count.Statement.{statement}
+use Rattle.leaf_within.proofs.split_count.Tie as tie
+use Rattle.leaf_within.proofs.split_count.Reads as reads
+use Rattle.leaf_within.proofs.split_count.Lts as lts
+
+-- src/lib.rt:42:9
+returns : tie.Need-returns
+returns c = search needs
+
+-- src/lib.rt:38:1
+returns-2 : tie.Need-returns-2
+returns-2 c = search needs
+
+pub split-count-spec : {M : Type 1} → statement M
+split-count-spec = tie.close (tie.spec returns returns-2)

@@ -1,0 +1,22 @@
+-- A list split into rows and keys, of which the first entries are the list's.
+use mathlib.Core.Path.{_≡_}
+use mathlib.Core.Bool.{true, false}
+use mathlib.Core.List.{List, map}
+use Prim.Native.Nat.{ℕ}
+use lib.Dec.{leb}
+use lib.ListN.{length, take}
+use Rattle.leaf_work.specs.declared.Entry.{Entry}
+use Rattle.leaf_work.specs.Lent.{mostEntries}
+use Rattle.leaf_work.specs.Flat.{rowOf}
+use Rattle.leaf_entries.specs.Lists.{laid}
+
+-- how many entries of a list are split: no more than a work takes
+abbrev pub splitCount : ℕ → ℕ
+splitCount entries = elim (leb entries mostEntries) [ true ↦ entries | false ↦ mostEntries ]
+
+-- rows and keys with the first entries of a list
+pub record SplitFrom (list : List Entry) (rows keys : List (List ℕ)) : Type 0 where
+  pub rows₀ : List (List ℕ)
+  pub keys₀ : List (List ℕ)
+  pub rows-are : rows ≡ laid (map rowOf (take (splitCount (length list)) list)) rows₀
+  pub keys-are : keys ≡ laid (map (λ e. e .key) (take (splitCount (length list)) list)) keys₀
