@@ -69,7 +69,7 @@ passed-rows size w list store page k c e =
     let a₆ = passed 15 _ _ (a₅ .1) in
     record { turn = a₁ .0; light = a₂ .0; let-in = a₃ .0; below = a₄ .0; list-room = leb-true _ _ (a₅ .0); store-room = leb-true _ _ (a₆ .0) }
 
-added-at-most-one : (change : taken.Change) → addedBy change ≤ 1
+pub added-at-most-one : (change : taken.Change) → addedBy change ≤ 1
 added-at-most-one (Put flag) = omega arith
 added-at-most-one Delete = omega arith
 
@@ -89,15 +89,15 @@ module _ (w : Work) (page k : List ℕ) (kept : Kept) (g : Taken w page k kept) 
   insert-is none = refl
   insert-is (some d) = refl
 
-  entries-are : (c : Option Change) → entriesWith w k kept c ≡ newEntries w page k c
+  pub entries-are : (c : Option Change) → entriesWith w k kept c ≡ newEntries w page k c
   entries-are c = rw (chunk-is, insert-is c)
 
   module _ (size : ℕ) (list : List Entry) (store : List ℕ) (c : Option Change) where
-    report-is : reportBy (w .low) page (kept .stop) (kept .dropped) ≡ outcome.reportOf size w list store page k c
+    pub report-is : reportBy (w .low) page (kept .stop) (kept .dropped) ≡ outcome.reportOf size w list store page k c
     unfolding reportBy
     report-is = rw (g .stop-is, g .dropped-is)
 
-    work-is : workWith w k kept (w .used + length (entriesWith w k kept c)) (length (inserted k c)) (length (valueOf c)) ≡ outcome.ingestWork size w list store page k c
+    pub work-is : workWith w k kept (w .used + length (entriesWith w k kept c)) (length (inserted k c)) (length (valueOf c)) ≡ outcome.ingestWork size w list store page k c
     work-is = rw (entries-are c, g .low-is, g .stop-is, g .taken-is, range-length page (w .low) (stop w page k), range-total page (w .low) (stop w page k))
 
 the-lent-things-come-first : (size : ℕ) (w : Work) (list : List Entry) (store page k : List ℕ) (c : Option Change) (v : ℕ) → v ≡ lentVerdict size w list store page → (v ≡ 0 → ⊥)

@@ -16,15 +16,17 @@ use leaf_work::Entry;
 use leaf_work::Work;
 ghost use mathlib.Core.Path.{_≡_};
 ghost use mathlib.Core.List.{List};
-ghost use Prim.Native.Nat.{ℕ};
+ghost use Prim.Native.Nat.{_+_, _≤_};
 ghost use lib.ListN.{length};
 ghost use Rattle.leaf_work.specs.declared.Entry as declared;
+ghost use Rattle.leaf_work.specs.Lent.{blank, insertAt, chunkOf};
 ghost use Rattle.leaf_work.specs.Outcome as outcome;
 ghost use Rattle.leaf_passed.specs.Passed.{beginningOf, passedOver};
 ghost use Rattle.leaf_ingest.specs.Reply.{changeOf, replyOf};
+ghost use Rattle.leaf_ingest.specs.Steps.{Sizes, addedBy};
 ghost use Rattle.leaf_step.specs.Over.{Over};
 ghost use Rattle.leaf_take.specs.Reply.{changeGiven, reportOut};
-ghost use Rattle.leaf_take.specs.Listing.{listed, TakesWithin};
+ghost use Rattle.leaf_take.specs.Listing.{chunkCount, placeOf, flagOf, refusedStep, acceptedStep, Steps, TakesWithin};
 
 // An ingest's answer: 0 or the refusal; whether a dropped cell is reported, 1 or 0, and its offset and length in the base page.
 #[repr(C)]
@@ -45,6 +47,195 @@ pub struct IngestStep {
     pub insert: Entry,
 }
 
+// ---- the change and the reply
+
+fn change_of(put: u8, flag: u8) -> Change
+    ensures { λ r. ⌜ r ≡ changeGiven put flag ⌝ }
+{
+    if put == 0 {
+        return Change::Delete;
+    }
+    Change::Put(flag != 0)
+}
+
+// The reply in numbers.
+fn report_out(reply: Report) -> LeafReport
+    ensures { λ r. ⌜ r ≡ reportOut (replyOf reply) ⌝ }
+{
+    match reply {
+        Report::Refused(n) => LeafReport {
+            refusal: n,
+            reported: 0,
+            offset: 0,
+            len: 0,
+        },
+        Report::Quiet => LeafReport {
+            refusal: 0,
+            reported: 0,
+            offset: 0,
+            len: 0,
+        },
+        Report::Reported(offset, len) => LeafReport {
+            refusal: 0,
+            reported: 1,
+            offset: offset,
+            len: len,
+        },
+    }
+}
+
+// ---- the entries
+
+fn blank_entry() -> Entry
+    ensures { λ r. ⌜ r ≡ blank ⌝ }
+{
+    Entry {
+        kind: 0,
+        flag: 0,
+        from: 0,
+        to: 0,
+        sum: 0,
+        key: [0u8; 32],
+    }
+}
+
+// A refused ingest lists nothing.
+fn refused_step(work: Work, entries: usize, number: u8) -> IngestStep
+    ensures { λ r. ⌜ r ≡ refusedStep work entries number ⌝ }
+{
+    let reply = LeafReport {
+        refusal: number,
+        reported: 0,
+        offset: 0,
+        len: 0,
+    };
+    let none = blank_entry();
+    IngestStep {
+        reply: reply,
+        work: work,
+        at: entries,
+        chunk: none,
+        next: entries,
+        insert: none,
+    }
+}
+
+// How many chunks are listed of what a key takes up: none where that is nothing.
+fn chunks(low: usize, stop: usize) -> usize
+    ensures { λ r. ⌜ (r ≡ chunkCount low stop) × (r ≤ 1) ⌝ }
+{
+    if low < stop {
+        return 1;
+    }
+    0
+}
+
+// Where an entry stands: behind `used` entries where it is listed, else past the end.
+fn place_of(listed: usize, used: usize, entries: usize) -> usize
+    ensures { λ r. ⌜ r ≡ placeOf listed used entries ⌝ }
+{
+    if listed == 0 {
+        return entries;
+    }
+    used
+}
+
+fn chunk_entry(low: usize, stop: usize, sum: usize) -> Entry
+    ensures { λ r. ⌜ r ≡ chunkOf low stop sum ⌝ }
+{
+    Entry {
+        kind: 2,
+        flag: 0,
+        from: low,
+        to: stop,
+        sum: sum,
+        key: [0u8; 32],
+    }
+}
+
+// A change's flag as a number.
+fn flag_of(change: Change) -> u8
+    ensures { λ r. ⌜ r ≡ flagOf change ⌝ }
+{
+    match change {
+        Change::Delete => 0,
+        Change::Put(flag) => {
+            if flag {
+                return 1;
+            }
+            0
+        }
+    }
+}
+
+fn insert_entry(from: usize, to: usize, key: &[u8; 32], flag: u8) -> Entry
+    ensures { λ r. ⌜ r ≡ insertAt from to (now (key .entry)) flag ⌝ }
+{
+    let own = *key;
+    Entry {
+        kind: 1,
+        flag: flag,
+        from: from,
+        to: to,
+        sum: 0,
+        key: own,
+    }
+}
+
+// ---- the step
+
+// An ingest that is accepted: what its key takes up is `kept`, its value has `len` bytes.
+fn accepted_step(
+    work: Work,
+    kept: Kept,
+    entries: usize,
+    key: &[u8; 32],
+    change: Change,
+    len: usize,
+    reply: LeafReport,
+) -> IngestStep
+    requires { ⌜ (Sizes work kept (addedBy change)) × (work .filled + len ≤ 65536) × (work .used ≤ 4096) ⌝ }
+    ensures { λ r. ⌜ r ≡ acceptedStep work kept entries (now (key .entry)) change len reply ⌝ }
+{
+    let chunk = chunks(work.low, kept.stop);
+    let put = added(change);
+    let next = work.used + chunk;
+    IngestStep {
+        reply: reply,
+        work: ingest_work(work, key, kept, next + put, put, len),
+        at: place_of(chunk, work.used, entries),
+        chunk: chunk_entry(work.low, kept.stop, kept.taken),
+        next: place_of(put, next, entries),
+        insert: insert_entry(work.filled, work.filled + len, key, flag_of(change)),
+    }
+}
+
+// An ingest into a list with so many entries whose lent things earn no refusal. `page` is as the work regards it.
+fn take_step(
+    work: Work,
+    entries: usize,
+    store: &mut [u8],
+    page: &[u8],
+    key: &[u8; 32],
+    change: Change,
+    value: &[u8],
+    size: usize,
+) -> IngestStep
+    requires { ⌜ TakesWithin size work entries (now store) (now page) ⌝ }
+    ensures { λ r. ⌜ ((list : List declared.Entry) → length list ≡ entries → Steps (outcome.ingestOn size work list (now (store .entry)) (now (page .entry)) (now (key .entry)) (changeOf change (now (value .entry))) 0) list r (now (store .exit))) ⌝ }
+{
+    let a = admit(work, page, key, change, value, entries, store.len(), size);
+    if a.number != 0 {
+        return refused_step(work, entries, a.number);
+    }
+    let new = value_of(change, value);
+    copy_in(new, store, work.filled);
+    let reply = report_out(report_of(work.low, page, a.kept));
+    accepted_step(work, a.kept, entries, key, change, new.len(), reply)
+}
+
+// ---- the call
+
 // An ingest into a work whose list has so many entries.
 pub fn ingest_step(
     work: Work,
@@ -58,7 +249,7 @@ pub fn ingest_step(
     value: &[u8],
 ) -> IngestStep
     requires { ⌜ Over work (now page) at entries ⌝ }
-    ensures { λ r. ⌜ ((list : List declared.Entry) → length list ≡ entries → at ≡ passedOver (now (page .entry)) (beginningOf 4096 work (now (page .entry))) list → (let o : outcome.Ingested = outcome.ingestOf 4096 work list (now (store .entry)) (now (page .entry)) (now (key .entry)) (changeOf (changeGiven put flag) (now (value .entry))) in (r .reply ≡ reportOut (o .reply)) × (r .work ≡ o .work) × (listed list r ≡ o .list) × (now (store .exit) ≡ o .store))) ⌝ }
+    ensures { λ r. ⌜ ((list : List declared.Entry) → length list ≡ entries → at ≡ passedOver (now (page .entry)) (beginningOf 4096 work (now (page .entry))) list → Steps (outcome.ingestOf 4096 work list (now (store .entry)) (now (page .entry)) (now (key .entry)) (changeOf (changeGiven put flag) (now (value .entry)))) list r (now (store .exit))) ⌝ }
 {
     let number = lent_at(work, at, entries, store, page, PAGE_SIZE);
     if number != 0 {
@@ -75,13 +266,4 @@ pub fn ingest_step(
         value,
         PAGE_SIZE,
     )
-}
-
-fn change_of(put: u8, flag: u8) -> Change
-    ensures { λ r. ⌜ r ≡ changeGiven put flag ⌝ }
-{
-    if put == 0 {
-        return Change::Delete;
-    }
-    Change::Put(flag != 0)
 }

@@ -1,0 +1,88 @@
+use Rattle.leaf_take.proofs.Values.{the-step-is-made}
+use borrow.Author.Needs.{needs}
+use Rattle.leaf_take.proofs.accepted_step.Statement.{statement}
+use Rattle.leaf_take.proofs.accepted_step.Tie as tie
+use Rattle.leaf_take.proofs.accepted_step.Reads as reads
+use Rattle.leaf_take.proofs.accepted_step.Lts as lts
+use Rattle.leaf_ingest.proofs.added.Reads as added-reads
+use Rattle.leaf_ingest.proofs.ingest_work.Reads as ingest-work-reads
+use Rattle.leaf_take.proofs.chunk_entry.Reads as chunk-entry-reads
+use Rattle.leaf_take.proofs.chunks.Reads as chunks-reads
+use Rattle.leaf_take.proofs.flag_of.Reads as flag-of-reads
+use Rattle.leaf_take.proofs.insert_entry.Reads as insert-entry-reads
+use Rattle.leaf_take.proofs.place_of.Reads as place-of-reads
+
+-- src/lib.rt:200:9
+chunks-requires : tie.Need-chunks-requires
+chunks-requires c κs = search needs
+
+-- src/lib.rt:201:9
+added-requires : tie.Need-added-requires
+added-requires c κs = search needs
+
+-- src/lib.rt:202:16
+add-next : tie.Need-add-next
+add-next c = search needs
+
+-- src/lib.rt:205:44
+add-ingest-work : tie.Need-add-ingest-work
+add-ingest-work c = search needs
+
+-- src/lib.rt:205:15
+ingest-work-requires : tie.Need-ingest-work-requires
+ingest-work-requires c κs = search needs
+
+-- src/lib.rt:206:13
+place-of-requires : tie.Need-place-of-requires
+place-of-requires c κs = search needs
+
+-- src/lib.rt:207:16
+chunk-entry-requires : tie.Need-chunk-entry-requires
+chunk-entry-requires c κs = search needs
+
+-- src/lib.rt:208:15
+place-of-requires-2 : tie.Need-place-of-requires-2
+place-of-requires-2 c κs = search needs
+
+-- src/lib.rt:209:43
+add-insert-entry : tie.Need-add-insert-entry
+add-insert-entry c = search needs
+
+-- src/lib.rt:209:67
+flag-of-requires : tie.Need-flag-of-requires
+flag-of-requires c κs = search needs
+
+-- src/lib.rt:209:17
+insert-entry-requires : tie.Need-insert-entry-requires
+insert-entry-requires c κs = search needs
+
+-- src/lib.rt:188:1
+returns : tie.Need-returns
+returns c =
+    let flagged = c .before in
+    let second = flagged .before .before in
+    let chunk = second .before in
+    let first = chunk .before in
+    let worked = first .before in
+    let added = worked .before .before in
+    let args = added .before .before .args in
+    the-step-is-made (args .work) (args .kept) (args .entries) (args .key .now) (args .change) (args .len) (args .reply) _ _ _ _ _ _ _ _
+    (added .before .chunks .ensures .0) (added .added .ensures .0) (worked .ingest-work .ensures) (first .place-of .ensures) (chunk .chunk-entry .ensures)
+    (second .place-of2 .ensures) (flagged .flag-of .ensures) (c .insert-entry .ensures)
+
+pub accepted-step-spec : {M : Type 1} → statement M
+accepted-step-spec =
+    tie.close
+    (tie.spec
+    chunks-requires
+    added-requires
+    add-next
+    add-ingest-work
+    ingest-work-requires
+    place-of-requires
+    chunk-entry-requires
+    place-of-requires-2
+    add-insert-entry
+    flag-of-requires
+    insert-entry-requires
+    returns)
