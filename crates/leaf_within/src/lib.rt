@@ -11,11 +11,14 @@ ghost use mathlib.Core.List.{List};
 ghost use Prim.Native.Nat.{ℕ, _≤_};
 ghost use lib.ListN.{length, take};
 ghost use Rattle.leaf_work.specs.declared.Entry as declared;
+ghost use Rattle.leaf_work.specs.Verdict.{first};
 ghost use Rattle.leaf_work.specs.Digest as outcome;
+ghost use Rattle.leaf_work.specs.Digest.{DigestRefused};
+ghost use Rattle.leaf_passed.specs.Passed.{pageNumber};
 ghost use Rattle.leaf_digest.specs.Reply as gave;
 ghost use Rattle.leaf_entries.specs.Lists.{laid, gathered};
 ghost use Rattle.leaf_within.specs.Reply.{gaveOut};
-ghost use Rattle.leaf_within.specs.Within.{splitCount, SplitFrom};
+ghost use Rattle.leaf_within.specs.Within.{splitCount, SplitFrom, stepOf};
 
 // A digest's answer: 0 or the refusal, whether it waits for a merge, 1 or 0, how many leaves it gave, and the cutoff for which it waits,
 // else zeros.
@@ -57,6 +60,62 @@ pub fn blank_keys() -> [[u8; 32]; 4096]
     [[0u8; 32]; 4096]
 }
 
+// The number of a list that is longer than a work takes: the page's, else 7.
+fn list_number(work: Work, page: &[u8]) -> u8
+    ensures { λ r. ⌜ r ≡ first (pageNumber 4096 work (now (page .entry))) 7 ⌝ }
+{
+    let number = page_verdict(work, page, PAGE_SIZE);
+    if number != 0 {
+        return number;
+    }
+    ROOM_LENGTH
+}
+
+// A refused digest gives back no entries.
+fn refused_digest(work: Work, number: u8) -> DigestStep
+    ensures { λ r. ⌜ r ≡ stepOf (DigestRefused number) work 0 ⌝ }
+{
+    DigestStep {
+        reply: LeafGave {
+            refusal: number,
+            waiting: 0,
+            leaves: 0,
+            cutoff: [0u8; 32],
+        },
+        work: work,
+        count: 0,
+    }
+}
+
+// What a digest answers and leaves of a list with so many entries.
+fn step_of(reply: Gave, cutoff: [u8; 32], work: Work, entries: usize) -> DigestStep
+    ensures { λ r. ⌜ r ≡ stepOf (gave.replyOf reply cutoff) work entries ⌝ }
+{
+    match reply {
+        Gave::Refused(n) => refused_digest(work, n),
+        Gave::Finished(leaves) => DigestStep {
+            reply: LeafGave {
+                refusal: 0,
+                waiting: 0,
+                leaves: leaves,
+                cutoff: [0u8; 32],
+            },
+            work: work,
+            count: entries,
+        },
+        Gave::Merge(leaves) => DigestStep {
+            reply: LeafGave {
+                refusal: 0,
+                waiting: 1,
+                leaves: leaves,
+                cutoff: cutoff,
+            },
+            work: work,
+            count: entries,
+        },
+    }
+}
+
 // A digest of a work whose list has so many entries.
 pub fn digest_within(
     work: Work,
@@ -86,52 +145,4 @@ pub fn digest_within(
     let reply = after.reply;
     let cutoff = after.cutoff;
     step_of(reply, cutoff, after.work, entries)
-}
-
-// The number of a list that is longer than a work takes: the page's, else 7.
-fn list_number(work: Work, page: &[u8]) -> u8 {
-    let number = page_verdict(work, page, PAGE_SIZE);
-    if number != 0 {
-        return number;
-    }
-    ROOM_LENGTH
-}
-
-fn refused_digest(work: Work, number: u8) -> DigestStep {
-    DigestStep {
-        reply: LeafGave {
-            refusal: number,
-            waiting: 0,
-            leaves: 0,
-            cutoff: [0u8; 32],
-        },
-        work: work,
-        count: 0,
-    }
-}
-
-fn step_of(reply: Gave, cutoff: [u8; 32], work: Work, entries: usize) -> DigestStep {
-    match reply {
-        Gave::Refused(n) => refused_digest(work, n),
-        Gave::Finished(leaves) => DigestStep {
-            reply: LeafGave {
-                refusal: 0,
-                waiting: 0,
-                leaves: leaves,
-                cutoff: [0u8; 32],
-            },
-            work: work,
-            count: entries,
-        },
-        Gave::Merge(leaves) => DigestStep {
-            reply: LeafGave {
-                refusal: 0,
-                waiting: 1,
-                leaves: leaves,
-                cutoff: cutoff,
-            },
-            work: work,
-            count: entries,
-        },
-    }
 }

@@ -1,4 +1,114 @@
+use Rattle.leaf_within.proofs.Within.{gathers, a-long-list-is-refused, nothing-is-given-back, a-split-list-is-digested, no-more-is-given-back-than-there-is, the-first-entries-are-there}
+use borrow.Author.Needs.{needs}
 use Rattle.leaf_within.proofs.digest_within.Statement.{statement}
+use Rattle.leaf_within.proofs.digest_within.Tie as tie
+use Rattle.leaf_within.proofs.digest_within.Reads as reads
+use Rattle.leaf_within.proofs.digest_within.Lts as lts
+use Rattle.leaf_digest.proofs.digest.Reads as digest-reads
+use Rattle.leaf_within.proofs.list_number.Reads as list-number-reads
+use Rattle.leaf_within.proofs.refused_digest.Reads as refused-digest-reads
+use Rattle.leaf_within.proofs.step_of.Reads as step-of-reads
+
+-- src/lib.rt:134:37
+list-number-requires : tie.Need-list-number-requires
+list-number-requires c κs = search needs
+
+-- src/lib.rt:134:9
+refused-digest-requires : tie.Need-refused-digest-requires
+refused-digest-requires c κs = search needs
+
+-- src/lib.rt:134:9
+returns : tie.Need-returns
+returns c =
+    let counted = c .before in
+    let tested = counted .before in
+    let args = tested .before .before .before .before .before .args in
+    let none = nothing-is-given-back _ _ (args .entries) _ (c .refused-digest .ensures) in (
+      λ list l s. gathers (a-long-list-is-refused (args .work) (args .entries) (tested .if1 .taken) (args .store .now) (args .page .now) (args .area .now) (args .tickets .now) _ (counted .list-number .ensures) list l (args .rows .now) (args .keys .now) _ (c .refused-digest .ensures)),
+      none .0,
+      none .1,
+    )
+
+-- src/lib.rt:138:9
+slice-relend-prefix-digest : tie.Need-slice-relend-prefix-digest
+slice-relend-prefix-digest c = search needs
+
+-- src/lib.rt:138:9
+slice-aggregate-digest : tie.Need-slice-aggregate-digest
+slice-aggregate-digest c =
+    let start = c .before .before .before .before .before .before in
+    the-first-entries-are-there _ _ (start .pre .0) (c .before .if1 .left)
+
+-- src/lib.rt:139:9
+slice-relend-prefix-digest-2 : tie.Need-slice-relend-prefix-digest-2
+slice-relend-prefix-digest-2 c = search needs
+
+-- src/lib.rt:139:9
+slice-aggregate-digest-2 : tie.Need-slice-aggregate-digest-2
+slice-aggregate-digest-2 c =
+    let start = c .before .before .before .before .before .before .before in
+    the-first-entries-are-there _ _ (start .pre .1) (c .before .before .if1 .left)
+
+-- src/lib.rt:136:9
+digest-requires : tie.Need-digest-requires
+digest-requires c κs = search needs
+
+-- src/lib.rt:147:5
+step-of-requires : tie.Need-step-of-requires
+step-of-requires c κs = search needs
+
+-- src/lib.rt:120:1
+same-length : tie.Need-same-length
+same-length c = search needs
+
+-- src/lib.rt:120:1
+same-length-2 : tie.Need-same-length-2
+same-length-2 c = search needs
+
+-- src/lib.rt:120:1
+same-length-3 : tie.Need-same-length-3
+same-length-3 c = search needs
+
+-- src/lib.rt:120:1
+same-length-4 : tie.Need-same-length-4
+same-length-4 c = search needs
+
+-- src/lib.rt:120:1
+same-length-5 : tie.Need-same-length-5
+same-length-5 c = search needs
+
+-- src/lib.rt:120:1
+returns-2 : tie.Need-returns-2
+returns-2 c =
+    let given = c .before .before .before .before .before .before .before .before in
+    let digested = given .before .before in
+    let tested = digested .before .before .before .before .before .before in
+    let start = tested .before .before .before .before .before in
+    let args = start .args in
+    let few = no-more-is-given-back-than-there-is (args .work) (args .entries) (tested .if1 .left) (args .rows .now) (args .keys .now) (args .store .now) (args .page .now) (args .area .now) (args .tickets .now)
+    (digested .digest .last .1 .0) (digested .digest .last .1 .1 .0) _ _ _ _ _ _ _ _ (c .step-of .ensures) (start .pre .0) (start .pre .1) (given .before .rows .given .0) (given .keys .given .0) (digested .digest .ensures) in (
+      λ list l s. gathers (a-split-list-is-digested (args .work) (args .entries) (tested .if1 .left) (args .rows .now) (args .keys .now) (args .store .now) (args .page .now) (args .area .now) (args .tickets .now)
+          (digested .digest .last .1 .0) (digested .digest .last .1 .1 .0) _ _ _ _ _ _ _ _ (c .step-of .ensures) (start .pre .0) (start .pre .1) (given .before .rows .given .0) (given .keys .given .0) (digested .digest .ensures) list l s),
+      few .0,
+      few .1,
+    )
 
 pub digest-within-spec : {M : Type 1} → statement M
-digest-within-spec 𝓤 H 𝓜 𝓖 𝓡 = ?
+digest-within-spec =
+    tie.close
+    (tie.spec
+    list-number-requires
+    refused-digest-requires
+    returns
+    slice-relend-prefix-digest
+    slice-aggregate-digest
+    slice-relend-prefix-digest-2
+    slice-aggregate-digest-2
+    digest-requires
+    step-of-requires
+    same-length
+    same-length-2
+    same-length-3
+    same-length-4
+    same-length-5
+    returns-2)

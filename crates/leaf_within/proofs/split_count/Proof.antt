@@ -1,16 +1,17 @@
+use Rattle.leaf_within.proofs.Counts.{a-short-list-is-split-whole, a-long-list-is-split-in-part}
 use borrow.Author.Needs.{needs}
 use Rattle.leaf_within.proofs.split_count.Statement.{statement}
 use Rattle.leaf_within.proofs.split_count.Tie as tie
 use Rattle.leaf_within.proofs.split_count.Reads as reads
 use Rattle.leaf_within.proofs.split_count.Lts as lts
 
--- src/lib.rt:42:9
+-- src/lib.rt:45:9
 returns : tie.Need-returns
-returns c = search needs
+returns c = search (a-short-list-is-split-whole, needs)
 
--- src/lib.rt:38:1
+-- src/lib.rt:41:1
 returns-2 : tie.Need-returns-2
-returns-2 c = search needs
+returns-2 c = search (a-long-list-is-split-in-part, needs)
 
 pub split-count-spec : {M : Type 1} → statement M
 split-count-spec = tie.close (tie.spec returns returns-2)
