@@ -49,7 +49,7 @@ pub struct IngestStep {
 
 // ---- the change and the reply
 
-fn change_of(put: u8, flag: u8) -> Change
+pub fn change_of(put: u8, flag: u8) -> Change
     ensures { λ r. ⌜ r ≡ changeGiven put flag ⌝ }
 {
     if put == 0 {

@@ -1,7 +1,6 @@
 -- The structs of numbers that stand for the replies of the core: document 01's number, and the values of each case.
-use mathlib.Core.Bool.{true, false, cond}
+use mathlib.Core.Bool.{cond}
 use Prim.Native.Nat.{ℕ}
-use Rattle.leaf_model.specs.Work.{zeroKey}
 use Rattle.leaf_node.specs.declared.Cell.{Cell}
 use Rattle.leaf_node.specs.declared.KeyReply.{KeyReply}
 use Rattle.leaf_node.specs.declared.ValueReply.{ValueReply}
@@ -10,14 +9,6 @@ use Rattle.leaf_node.specs.declared.GetReply.{GetReply}
 use Rattle.leaf_node.specs.declared.GetReply.the-variants as get
 use Rattle.leaf_node.specs.declared.SizeReply.{SizeReply}
 use Rattle.leaf_node.specs.declared.SizeReply.the-variants as sizes
-use Rattle.leaf_work.specs.declared.Work.{Work}
-use Rattle.leaf_work.specs.Tests.{isZero, isSet}
-use Rattle.leaf_work.specs.Outcome.{IngestReply, IngestRefused, Quiet, Reported}
-use Rattle.leaf_work.specs.Digest.{DigestReply, DigestRefused, Finished, Merge}
-use Rattle.leaf_ingest.specs.declared.Change.{Change}
-use Rattle.leaf_ingest.specs.declared.Change.the-variants.{Put, Delete}
-use Rattle.leaf_updater.specs.declared.LeafIngested.{LeafIngested}
-use Rattle.leaf_updater.specs.declared.LeafDigested.{LeafDigested}
 use Rattle.leaf_updater.specs.declared.LeafKey.{LeafKey}
 use Rattle.leaf_updater.specs.declared.LeafValue.{LeafValue}
 use Rattle.leaf_updater.specs.declared.LeafSize.{LeafSize}
@@ -44,17 +35,3 @@ getOut (get.At c) = foundValue c
 abbrev pub sizeOut : SizeReply → LeafSize
 sizeOut (sizes.Refused n) = record { refusal = n; bytes = 0 }
 sizeOut (sizes.Bytes b) = record { refusal = 0; bytes = b }
-
--- a change by two numbers: put, and the new value's flag
-abbrev pub changeGiven : ℕ → ℕ → Change
-changeGiven put flag = elim (isZero put) [ true ↦ Delete | false ↦ Put (isSet flag) ]
-
-abbrev pub ingestOut : IngestReply → Work → LeafIngested
-ingestOut (IngestRefused n) work = record { refusal = n; reported = 0; offset = 0; len = 0; work = work }
-ingestOut Quiet work = record { refusal = 0; reported = 0; offset = 0; len = 0; work = work }
-ingestOut (Reported offset len) work = record { refusal = 0; reported = 1; offset = offset; len = len; work = work }
-
-abbrev pub digestOut : DigestReply → Work → LeafDigested
-digestOut (DigestRefused n) work = record { refusal = n; waiting = 0; leaves = 0; cutoff = zeroKey; work = work }
-digestOut (Finished leaves) work = record { refusal = 0; waiting = 0; leaves = leaves; cutoff = zeroKey; work = work }
-digestOut (Merge leaves cutoff) work = record { refusal = 0; waiting = 1; leaves = leaves; cutoff = cutoff; work = work }

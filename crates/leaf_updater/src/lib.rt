@@ -1,16 +1,34 @@
 // The calls as a firmware programmer links them: document 01's calls under C names with the prefix `leaf_`, refusals by
 // document 01's numbers. No call has a `requires`. An enum can't cross to C, so replies are structs of numbers; `specs/`
 // says which one stands for each case.
-use leaf_digest::Gave;
-use leaf_ingest::Change;
-use leaf_ingest::Report;
+use leaf_entries::drain;
+use leaf_entries::gather;
+use leaf_entries::insert;
+use leaf_entries::pass_entries;
+use leaf_entries::seek_entries;
+use leaf_entries::split;
 use leaf_node::Cell;
 use leaf_node::GetReply;
 use leaf_node::KeyReply;
 use leaf_node::SizeReply;
 use leaf_node::ValueReply;
-use leaf_open::Updated;
+use leaf_passed::begin_seek;
 use leaf_pending::TwinPlace;
+use leaf_step::next_base_step;
+use leaf_step::open_step;
+use leaf_step::part_step;
+use leaf_step::remove_step;
+use leaf_step::start;
+use leaf_step::start_closed;
+use leaf_step::twin_step;
+use leaf_take::LeafReport;
+use leaf_take::ingest_step;
+use leaf_within::LeafGave;
+use leaf_within::blank_keys;
+use leaf_within::blank_rows;
+use leaf_within::digest_within;
+use leaf_within::split_count;
+use leaf_work::Entry;
 use leaf_work::Work;
 ghost use mathlib.Core.Path.{_≡_};
 ghost use mathlib.Core.Bool.{cond};
@@ -20,21 +38,17 @@ ghost use Rattle.leaf_node.specs.Good.{pageVerdict};
 ghost use Rattle.leaf_node.specs.Reply.{keyReply, valueReply, getReply, sizeReply};
 ghost use Rattle.leaf_builder.specs.Rebuild.{rebuildVerdict, rebuildLeaves};
 ghost use Rattle.leaf_work.specs.Tests.{isSet};
-ghost use Rattle.leaf_work.specs.Lent.{separatorOf, regarded};
-ghost use Rattle.leaf_work.specs.Flat.{listOf, rowsAfter, keysAfter};
-ghost use mathlib.Core.Option.{Option};
-ghost use Rattle.leaf_model.specs.Work as model;
-ghost use Rattle.leaf_work.specs.TakingUp.{newEntries};
+ghost use Rattle.leaf_work.specs.Lent.{separatorOf};
 ghost use Rattle.leaf_work.specs.Outcome as outcome;
 ghost use Rattle.leaf_work.specs.Outcome.{Opened, openOf, replyNumber, Changed, nextBaseOf, removeCutoffOf, twinOf, partOf, inScopeOf};
 ghost use Rattle.leaf_work.specs.Digest as digesting;
 ghost use Rattle.leaf_open.specs.Opening.{openingOf};
-ghost use Rattle.leaf_digest.specs.Reply as gave;
-ghost use Rattle.leaf_ingest.specs.Reply.{changeOf, replyOf};
-ghost use Rattle.leaf_ingest.specs.Steps.{rowsWith};
+ghost use Rattle.leaf_ingest.specs.Reply.{changeOf};
 ghost use Rattle.leaf_pending.specs.Reply.{twinOut};
+ghost use Rattle.leaf_take.specs.Reply.{changeGiven, reportOut};
+ghost use Rattle.leaf_within.specs.Reply.{gaveOut};
 ghost use Rattle.leaf_updater.specs.Copy.{copiedWhole};
-ghost use Rattle.leaf_updater.specs.Reply.{changeGiven, ingestOut, digestOut, keyOut, refusedValue, foundValue, valueOut, getOut, sizeOut};
+ghost use Rattle.leaf_updater.specs.Reply.{keyOut, refusedValue, foundValue, valueOut, getOut, sizeOut};
 
 // ---- keys
 
@@ -216,236 +230,167 @@ pub extern "C" fn leaf_page_rebuild(
     leaf_builder::rebuild(page, from, mid, to, out)
 }
 
-// ---- works, over the flat list: rows of five numbers, and beside them the keys. A flag is set where it is not 0. An absent
-// page, separator or cutoff is ignored, whatever stands there.
+// ---- works. The work record is lent and changed in place; the list is a lent slice of entries. A flag is set where it is not 0. An
+// absent page, separator or cutoff is ignored, whatever stands there. A refused call changes no byte.
 
-// Opens a work, with a base or with none. Answers 0 and the new work record, list and store filled with zeros, or the refusal,
-// and then everything is as it was.
+// Opens a work, with a base or with none: list and store are filled with zeros. Answers 0, or the refusal.
 #[no_mangle]
-pub extern "C" fn leaf_flat_open(
+pub extern "C" fn leaf_open(
+    work: &mut Work,
+    list: &mut [Entry],
+    store: &mut [u8],
     based: u8,
     page: &[u8],
     separator: &[u8; 32],
     cut: u8,
     cutoff: &[u8; 32],
-    work: Work,
-    rows: &mut [[usize; 5]],
-    keys: &mut [[u8; 32]],
-    store: &mut [u8],
-) -> Updated
-    ensures { λ r. ⌜ (let o : Opened = openOf 4096 (openingOf (isSet based) (now (page .entry)) (now (separator .entry)) (isSet cut) (now (cutoff .entry))) work (listOf (now (rows .entry)) (now (keys .entry))) (now (store .entry)) in (r .refusal ≡ replyNumber (o .reply)) × (r .work ≡ o .work) × (now (rows .exit) ≡ rowsAfter (replyNumber (o .reply)) (o .list) (now (rows .entry))) × (now (keys .exit) ≡ keysAfter (replyNumber (o .reply)) (o .list) (now (keys .entry))) × (now (store .exit) ≡ o .store)) ⌝ }
+) -> u8
+    ensures { λ r. ⌜ (let o : Opened = openOf 4096 (openingOf (isSet based) (now (page .entry)) (now (separator .entry)) (isSet cut) (now (cutoff .entry))) (now (work .entry)) (now (list .entry)) (now (store .entry)) in (r ≡ replyNumber (o .reply)) × (now (work .exit) ≡ o .work) × (now (list .exit) ≡ o .list) × (now (store .exit) ≡ o .store)) ⌝ }
 {
-    leaf_open::open(
-        based != 0,
+    let step = open_step(
+        *work,
+        list.len(),
+        store,
+        based,
         page,
         separator,
-        cut != 0,
+        cut,
         cutoff,
-        work,
-        rows,
-        keys,
-        store,
-    )
-}
-
-// An ingest's answer: 0 or the refusal, whether a dropped cell is reported, 1 or 0, its offset and length in the base page, and the
-// work record after the call.
-#[repr(C)]
-pub struct LeafIngested {
-    pub refusal: u8,
-    pub reported: u8,
-    pub offset: usize,
-    pub len: usize,
-    pub work: Work,
-}
-
-fn change_of(put: u8, flag: u8) -> Change
-    ensures { λ r. ⌜ r ≡ changeGiven put flag ⌝ }
-{
-    if put == 0 {
-        return Change::Delete;
-    }
-    Change::Put(flag != 0)
-}
-
-fn ingested_out(reply: Report, work: Work) -> LeafIngested
-    ensures { λ r. ⌜ r ≡ ingestOut (replyOf reply) work ⌝ }
-{
-    match reply {
-        Report::Refused(n) => LeafIngested {
-            refusal: n,
-            reported: 0,
-            offset: 0,
-            len: 0,
-            work: work,
-        },
-        Report::Quiet => LeafIngested {
-            refusal: 0,
-            reported: 0,
-            offset: 0,
-            len: 0,
-            work: work,
-        },
-        Report::Reported(offset, len) => LeafIngested {
-            refusal: 0,
-            reported: 1,
-            offset: offset,
-            len: len,
-            work: work,
-        },
-    }
+    );
+    drain(list, step.from);
+    *work = step.work;
+    step.refusal
 }
 
 // Takes a key into an open work: with a new value and its flag where put is set, else as a deletion, which ignores both.
 #[no_mangle]
-pub extern "C" fn leaf_flat_ingest(
-    work: Work,
-    rows: &mut [[usize; 5]],
-    keys: &mut [[u8; 32]],
+pub extern "C" fn leaf_ingest(
+    work: &mut Work,
+    list: &mut [Entry],
     store: &mut [u8],
     page: &[u8],
     key: &[u8; 32],
     put: u8,
     flag: u8,
     value: &[u8],
-) -> LeafIngested
-    ensures { λ r. ⌜ (let c : Option model.Change = changeOf (changeGiven put flag) (now (value .entry)) in let o : outcome.Ingested = outcome.ingestOf 4096 work (listOf (now (rows .entry)) (now (keys .entry))) (now (store .entry)) (now (page .entry)) (now (key .entry)) c in (r ≡ ingestOut (o .reply) (o .work)) × (now (rows .exit) ≡ rowsWith (outcome.ingestNumber (o .reply)) (work .used) (newEntries work (regarded work (now (page .entry))) (now (key .entry)) c) (now (rows .entry))) × (now (keys .exit) ≡ keysAfter (outcome.ingestNumber (o .reply)) (o .list) (now (keys .entry))) × (now (store .exit) ≡ o .store) × (listOf (now (rows .exit)) (now (keys .exit)) ≡ o .list)) ⌝ }
+) -> LeafReport
+    ensures { λ r. ⌜ (let o : outcome.Ingested = outcome.ingestOf 4096 (now (work .entry)) (now (list .entry)) (now (store .entry)) (now (page .entry)) (now (key .entry)) (changeOf (changeGiven put flag) (now (value .entry))) in (r ≡ reportOut (o .reply)) × (now (work .exit) ≡ o .work) × (now (list .exit) ≡ o .list) × (now (store .exit) ≡ o .store)) ⌝ }
 {
-    let after = leaf_ingest::ingest(
-        work,
-        rows,
-        keys,
-        store,
-        page,
-        key,
-        change_of(put, flag),
-        value,
-    );
-    let reply = after.reply;
-    ingested_out(reply, after.work)
-}
-
-// A digest's answer: 0 or the refusal, how many leaves it gave, whether it waits for a merge, 1 or 0, and the cutoff for which it waits,
-// else zeros; and the work record after the call.
-#[repr(C)]
-pub struct LeafDigested {
-    pub refusal: u8,
-    pub waiting: u8,
-    pub leaves: usize,
-    pub cutoff: [u8; 32],
-    pub work: Work,
-}
-
-fn digested_out(reply: Gave, cutoff: [u8; 32], work: Work) -> LeafDigested
-    ensures { λ r. ⌜ r ≡ digestOut (gave.replyOf reply cutoff) work ⌝ }
-{
-    match reply {
-        Gave::Refused(n) => LeafDigested {
-            refusal: n,
-            waiting: 0,
-            leaves: 0,
-            cutoff: [0u8; 32],
-            work: work,
-        },
-        Gave::Finished(leaves) => LeafDigested {
-            refusal: 0,
-            waiting: 0,
-            leaves: leaves,
-            cutoff: [0u8; 32],
-            work: work,
-        },
-        Gave::Merge(leaves) => LeafDigested {
-            refusal: 0,
-            waiting: 1,
-            leaves: leaves,
-            cutoff: cutoff,
-            work: work,
-        },
-    }
+    let begun = start(*work, page);
+    let at = pass_entries(list, page, begun);
+    let step = ingest_step(*work, at, list.len(), store, page, key, put, flag, value);
+    insert(list, step.at, step.chunk);
+    insert(list, step.next, step.insert);
+    *work = step.work;
+    step.reply
 }
 
 // Gives leaves of an open work's pending records: each as a page of the area, with its ticket in the other buffer.
 #[no_mangle]
-pub extern "C" fn leaf_flat_digest(
-    work: Work,
-    rows: &mut [[usize; 5]],
-    keys: &mut [[u8; 32]],
+pub extern "C" fn leaf_digest(
+    work: &mut Work,
+    list: &mut [Entry],
     store: &mut [u8],
     page: &[u8],
     area: &mut [u8],
     tickets: &mut [u8],
-) -> LeafDigested
-    ensures { λ r. ⌜ (let o : digesting.Digested = digesting.digestOf 4096 work (listOf (now (rows .entry)) (now (keys .entry))) (now (store .entry)) (now (page .entry)) (now (area .entry)) (now (tickets .entry)) in (r ≡ digestOut (o .reply) (o .work)) × (now (rows .exit) ≡ rowsAfter (digesting.digestNumber (o .reply)) (o .list) (now (rows .entry))) × (now (keys .exit) ≡ keysAfter (digesting.digestNumber (o .reply)) (o .list) (now (keys .entry))) × (now (store .exit) ≡ o .store) × (now (area .exit) ≡ o .area) × (now (tickets .exit) ≡ o .tickets)) ⌝ }
+) -> LeafGave
+    ensures { λ r. ⌜ (let o : digesting.Digested = digesting.digestOf 4096 (now (work .entry)) (now (list .entry)) (now (store .entry)) (now (page .entry)) (now (area .entry)) (now (tickets .entry)) in (r ≡ gaveOut (o .reply)) × (now (work .exit) ≡ o .work) × (now (list .exit) ≡ o .list) × (now (store .exit) ≡ o .store) × (now (area .exit) ≡ o .area) × (now (tickets .exit) ≡ o .tickets)) ⌝ }
 {
-    let after = leaf_digest::digest(work, rows, keys, store, page, area, tickets);
-    let reply = after.reply;
-    let cutoff = after.cutoff;
-    digested_out(reply, cutoff, after.work)
+    let mut rows = blank_rows();
+    let mut keys = blank_keys();
+    split(list, &mut rows, &mut keys, split_count(list.len()));
+    let step = digest_within(
+        *work,
+        &mut rows,
+        &mut keys,
+        list.len(),
+        store,
+        page,
+        area,
+        tickets,
+    );
+    gather(list, &rows, &keys, step.count);
+    *work = step.work;
+    step.reply
 }
 
-// The next base of a work that waits, or is done and has a cutoff.
+// The next base of a work that waits, or is done and has a cutoff. Answers 0, or the refusal.
 #[no_mangle]
-pub extern "C" fn leaf_flat_next_base(
-    work: Work,
-    rows: &[[usize; 5]],
-    keys: &[[u8; 32]],
+pub extern "C" fn leaf_next_base(
+    work: &mut Work,
+    list: &[Entry],
     store: &[u8],
     page: &[u8],
     separator: &[u8; 32],
     cut: u8,
     cutoff: &[u8; 32],
-) -> Updated
-    ensures { λ r. ⌜ (let o : Changed = nextBaseOf 4096 work (listOf (now (rows .entry)) (now (keys .entry))) (now (store .entry)) (now (page .entry)) (now (separator .entry)) (isSet cut) (now (cutoff .entry)) in (r .refusal ≡ replyNumber (o .reply)) × (r .work ≡ o .work)) ⌝ }
+) -> u8
+    ensures { λ r. ⌜ (let o : Changed = nextBaseOf 4096 (now (work .entry)) (now (list .entry)) (now (store .entry)) (now (page .entry)) (now (separator .entry)) (isSet cut) (now (cutoff .entry)) in (r ≡ replyNumber (o .reply)) × (now (work .exit) ≡ o .work)) ⌝ }
 {
-    leaf_open::next_base(work, rows, keys, store, page, separator, cut != 0, cutoff)
+    let begun = start_closed(*work);
+    let at = pass_entries(list, page, begun);
+    let step = next_base_step(*work, at, list.len(), store, page, separator, cut, cutoff);
+    *work = step.work;
+    step.refusal
 }
 
-// Removes the cutoff of a work that waits.
+// Removes the cutoff of a work that waits. Answers 0, or the refusal.
 #[no_mangle]
-pub extern "C" fn leaf_flat_remove_cutoff(
-    work: Work,
-    rows: &[[usize; 5]],
-    keys: &[[u8; 32]],
-    store: &[u8],
-) -> Updated
-    ensures { λ r. ⌜ (let o : Changed = removeCutoffOf 4096 work (listOf (now (rows .entry)) (now (keys .entry))) (now (store .entry)) in (r .refusal ≡ replyNumber (o .reply)) × (r .work ≡ o .work)) ⌝ }
+pub extern "C" fn leaf_remove_cutoff(work: &mut Work, list: &[Entry], store: &[u8]) -> u8
+    ensures { λ r. ⌜ (let o : Changed = removeCutoffOf 4096 (now (work .entry)) (now (list .entry)) (now (store .entry)) in (r ≡ replyNumber (o .reply)) × (now (work .exit) ≡ o .work)) ⌝ }
 {
-    leaf_open::remove_cutoff(work, rows, keys, store)
+    let begun = start_closed(*work);
+    let at = pass_entries(list, store, begun);
+    let step = remove_step(*work, at, list.len(), store);
+    *work = step.work;
+    step.refusal
 }
 
 // Pending record i: where its value lies, its key and its flag.
 #[no_mangle]
-pub extern "C" fn leaf_flat_twin(
+pub extern "C" fn leaf_twin(
     work: Work,
-    rows: &[[usize; 5]],
-    keys: &[[u8; 32]],
+    list: &[Entry],
     store: &[u8],
     page: &[u8],
     i: usize,
 ) -> TwinPlace
-    ensures { λ r. ⌜ r ≡ twinOut (twinOf 4096 work (listOf (now (rows .entry)) (now (keys .entry))) (now (store .entry)) (now (page .entry)) i) ⌝ }
+    ensures { λ r. ⌜ r ≡ twinOut (twinOf 4096 work (now (list .entry)) (now (store .entry)) (now (page .entry)) i) ⌝ }
 {
-    leaf_pending::twin(work, rows, keys, store, page, i)
+    let begun = start(work, page);
+    let at = pass_entries(list, page, begun);
+    let seek = seek_entries(list, begin_seek(i));
+    twin_step(work, at, seek, list.len(), store, page)
+}
+
+// The value of pending record i, as a part of store or page; none where the twin call refuses.
+pub fn part<'a>(work: Work, list: &[Entry], store: &'a [u8], page: &'a [u8], i: usize) -> &'a [u8]
+    ensures { λ r. ⌜ now r ≡ partOf 4096 work (now (list .entry)) (now (store .entry)) (now (page .entry)) i ⌝ }
+{
+    let begun = start(work, page);
+    let at = pass_entries(list, page, begun);
+    let seek = seek_entries(list, begin_seek(i));
+    part_step(work, at, seek, list.len(), store, page)
 }
 
 // The value of pending record i, copied to the start of out where out has room for it. Answers the value's length; a refused
 // read has none.
 #[no_mangle]
-pub extern "C" fn leaf_flat_part<'a>(
+pub extern "C" fn leaf_part<'a>(
     work: Work,
-    rows: &[[usize; 5]],
-    keys: &[[u8; 32]],
+    list: &[Entry],
     store: &'a [u8],
     page: &'a [u8],
     i: usize,
     out: &mut [u8],
 ) -> usize
-    ensures { λ r. ⌜ r ≡ length (partOf 4096 work (listOf (now (rows .entry)) (now (keys .entry))) (now (store .entry)) (now (page .entry)) i) ⌝ }
-    ensures { λ _. ⌜ now (out .exit) ≡ copiedWhole (partOf 4096 work (listOf (now (rows .entry)) (now (keys .entry))) (now (store .entry)) (now (page .entry)) i) (now (out .entry)) ⌝ }
+    ensures { λ r. ⌜ (r ≡ length (partOf 4096 work (now (list .entry)) (now (store .entry)) (now (page .entry)) i)) × (now (out .exit) ≡ copiedWhole (partOf 4096 work (now (list .entry)) (now (store .entry)) (now (page .entry)) i) (now (out .entry))) ⌝ }
 {
-    copy_whole(leaf_pending::part(work, rows, keys, store, page, i), out)
+    copy_whole(part(work, list, store, page, i), out)
 }
 
+// Copies bytes to the start of out where out has room for all of them. Answers their length.
 fn copy_whole(bytes: &[u8], out: &mut [u8]) -> usize
     ensures { λ r. ⌜ (r ≡ length (now (bytes .entry))) × (now (out .exit) ≡ copiedWhole (now (bytes .entry)) (now (out .entry))) ⌝ }
 {
@@ -458,7 +403,7 @@ fn copy_whole(bytes: &[u8], out: &mut [u8]) -> usize
 
 // Whether a key may still come, 1 or 0: it is below the cutoff, where there is one.
 #[no_mangle]
-pub extern "C" fn leaf_flat_is_in_scope(work: Work, key: &[u8; 32]) -> u8
+pub extern "C" fn leaf_is_in_scope(work: Work, key: &[u8; 32]) -> u8
     ensures { λ r. ⌜ r ≡ cond (inScopeOf work (now (key .entry))) 1 0 ⌝ }
 {
     bit(leaf_work::is_in_scope(work, key))
@@ -466,7 +411,7 @@ pub extern "C" fn leaf_flat_is_in_scope(work: Work, key: &[u8; 32]) -> u8
 
 // Writes the current separator into out.
 #[no_mangle]
-pub extern "C" fn leaf_flat_separator(work: Work, out: &mut [u8; 32])
+pub extern "C" fn leaf_separator(work: Work, out: &mut [u8; 32])
     ensures { λ _. ⌜ now (out .exit) ≡ separatorOf work ⌝ }
 {
     *out = leaf_work::separator(work);

@@ -5,8 +5,8 @@ use Prim.Native.Nat.{ℕ, _*_}
 use lib.Dec.{leb, eqb}
 use lib.ListN.{length, getD, take, drop}
 use Rattle.leaf_node.specs.Build.{put}
-use Rattle.leaf_updater.specs.declared.LeafIngested.{LeafIngested}
-use Rattle.leaf_updater.specs.declared.LeafDigested.{LeafDigested}
+use Rattle.leaf_flat.specs.declared.LeafIngested.{LeafIngested}
+use Rattle.leaf_flat.specs.declared.LeafDigested.{LeafDigested}
 use Rattle.leaf_work.specs.Tests.{every}
 use Rattle.replay.specs.Parts.{numberAt, hasAt, hasPart, isHeld}
 

@@ -8,8 +8,8 @@ use crate::bytes::number;
 use crate::bytes::same_key;
 use crate::bytes::same_part;
 use crate::tally::Tally;
-use leaf_updater::LeafDigested;
-use leaf_updater::LeafIngested;
+use leaf_flat::LeafDigested;
+use leaf_flat::LeafIngested;
 use leaf_work::Work;
 ghost use mathlib.Core.Path.{_≡_};
 ghost use mathlib.Core.Bool.{false};
@@ -143,7 +143,7 @@ fn open(
 ) -> Run {
     let separator = key(v, KEY);
     let cutoff = key(v, CUTOFF);
-    let after = leaf_updater::leaf_flat_open(
+    let after = leaf_flat::open(
         byte(v, FIRST),
         page,
         &separator,
@@ -177,7 +177,7 @@ fn ingest(
     if v.len() < end {
         return run.count(false);
     }
-    let after = leaf_updater::leaf_flat_ingest(
+    let after = leaf_flat::ingest(
         run.work,
         rows,
         keys,
@@ -224,7 +224,7 @@ fn digest_within(
     hold(area);
     hold(tickets);
     let start = 0;
-    leaf_updater::leaf_flat_digest(
+    leaf_flat::digest(
         work,
         rows,
         keys,
@@ -281,7 +281,7 @@ fn next_base(
 ) -> Run {
     let separator = key(v, KEY);
     let cutoff = key(v, CUTOFF);
-    let after = leaf_updater::leaf_flat_next_base(
+    let after = leaf_flat::next_base(
         run.work,
         rows,
         keys,
@@ -295,7 +295,7 @@ fn next_base(
 }
 
 fn remove_cutoff(v: &[u8], run: Run, rows: &[[usize; 5]], keys: &[[u8; 32]], store: &[u8]) -> Run {
-    let after = leaf_updater::leaf_flat_remove_cutoff(run.work, rows, keys, store);
+    let after = leaf_flat::remove_cutoff(run.work, rows, keys, store);
     run.answered(after.work, after.refusal == byte(v, REFUSAL))
 }
 

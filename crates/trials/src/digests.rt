@@ -3,7 +3,7 @@ use crate::line::close;
 use crate::line::say;
 use crate::line::say_reply;
 use crate::works::no_work;
-use leaf_updater::LeafDigested;
+use leaf_flat::LeafDigested;
 use leaf_work::Work;
 use libc::STDOUT_FILENO;
 ghost use Prim.Native.Nat.{_<_};
@@ -25,17 +25,7 @@ fn put_all(
         let mut key = [0u8; 32];
         key[0] = first;
         key[1] = i;
-        let after = leaf_updater::leaf_flat_ingest(
-            work,
-            rows,
-            keys,
-            store,
-            page,
-            &key,
-            1,
-            0,
-            value,
-        );
+        let after = leaf_flat::ingest(work, rows, keys, store, page, &key, 1, 0, value);
         work = after.work;
         i += 1;
     }
@@ -59,7 +49,7 @@ fn digested(
     let mut tickets = [0u8; 260];
     let none = [0u8; 32];
     let far = [0xffu8; 32];
-    let opened = leaf_updater::leaf_flat_open(
+    let opened = leaf_flat::open(
         based,
         page,
         &none,
@@ -90,7 +80,7 @@ fn digested(
         more,
         last,
     );
-    leaf_updater::leaf_flat_digest(
+    leaf_flat::digest(
         work,
         &mut rows,
         &mut keys,

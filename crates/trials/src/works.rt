@@ -3,8 +3,8 @@ use crate::line::close;
 use crate::line::say;
 use crate::line::say_reply;
 use crate::pages::flagged_pair;
+use leaf_flat::LeafIngested;
 use leaf_open::Updated;
-use leaf_updater::LeafIngested;
 use leaf_work::Work;
 
 pub(crate) fn no_work() -> Work {
@@ -37,7 +37,7 @@ fn opened(
     store: &mut [u8],
 ) -> Updated {
     let none = [0u8; 32];
-    leaf_updater::leaf_flat_open(based, page, &none, 0, &none, no_work(), rows, keys, store)
+    leaf_flat::open(based, page, &none, 0, &none, no_work(), rows, keys, store)
 }
 
 fn opens(rows: &mut [[usize; 5]], keys: &mut [[u8; 32]]) -> u8 {
@@ -69,7 +69,7 @@ fn ingested(based: u8, page: &[u8], key: &[u8; 32], put: u8, value: &[u8]) -> Le
     let mut keys = [[0u8; 32]; 121];
     let mut store = [0u8; 4096];
     let work = opened(based, page, &mut rows, &mut keys, &mut store).work;
-    leaf_updater::leaf_flat_ingest(
+    leaf_flat::ingest(
         work,
         &mut rows,
         &mut keys,

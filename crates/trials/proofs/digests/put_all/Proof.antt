@@ -21,8 +21,8 @@ array-write-key c = search needs
 array-write-key-2 : tie.Need-array-write-key-2 Inv-loop μ-loop
 array-write-key-2 c = search needs
 
-leaf-flat-ingest-requires : tie.Need-leaf-flat-ingest-requires Inv-loop μ-loop
-leaf-flat-ingest-requires c κs = search needs
+ingest-requires : tie.Need-ingest-requires Inv-loop μ-loop
+ingest-requires c κs = search needs
 
 add-i : tie.Need-add-i Inv-loop μ-loop
 add-i c = search needs
@@ -54,7 +54,7 @@ put-all-spec =
     loop-holds
     array-write-key
     array-write-key-2
-    leaf-flat-ingest-requires
+    ingest-requires
     add-i
     loop-less
     loop-again

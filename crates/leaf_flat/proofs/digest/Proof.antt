@@ -1,9 +1,9 @@
--- `leaf_updater::leaf_flat_digest` meets its contract.
+-- `leaf_flat::digest` meets its contract.
 -- Assumes nothing.
-use Rattle.leaf_updater.proofs.Replies.{digest-out}
+use Rattle.leaf_flat.proofs.Replies.{digest-out}
 use borrow.Author.Needs.{needs}
-use Rattle.leaf_updater.proofs.leaf_flat_digest.Statement.{statement}
-use Rattle.leaf_updater.proofs.leaf_flat_digest.Tie as tie
+use Rattle.leaf_flat.proofs.digest.Statement.{statement}
+use Rattle.leaf_flat.proofs.digest.Tie as tie
 
 digest-requires : tie.Need-digest-requires
 digest-requires c κs = search needs
@@ -38,8 +38,8 @@ returns c =
       left .7,
     )
 
-pub leaf-flat-digest-spec : {M : Type 1} → statement M
-leaf-flat-digest-spec =
+pub digest-spec : {M : Type 1} → statement M
+digest-spec =
     tie.close
     (tie.spec
     digest-requires

@@ -1,9 +1,9 @@
--- `leaf_updater::leaf_flat_ingest` meets its contract.
+-- `leaf_flat::ingest` meets its contract.
 -- Assumes nothing.
-use Rattle.leaf_updater.proofs.Replies.{ingest-out}
+use Rattle.leaf_flat.proofs.Replies.{ingest-out}
 use borrow.Author.Needs.{needs}
-use Rattle.leaf_updater.proofs.leaf_flat_ingest.Statement.{statement}
-use Rattle.leaf_updater.proofs.leaf_flat_ingest.Tie as tie
+use Rattle.leaf_flat.proofs.ingest.Statement.{statement}
+use Rattle.leaf_flat.proofs.ingest.Tie as tie
 
 change-of-requires : tie.Need-change-of-requires
 change-of-requires c κs = search needs
@@ -29,8 +29,8 @@ returns c =
     let left = at-ingest .ingest .ensures in
     rw (← at-ingest .before .change-of .ensures) (ingest-out (at-ingest .ingest .result .reply) (at-ingest .ingest .result .work) _ _ _ (left .0) (left .1) (c .ingested-out .ensures), left .2, left .3, left .4, left .5)
 
-pub leaf-flat-ingest-spec : {M : Type 1} → statement M
-leaf-flat-ingest-spec =
+pub ingest-spec : {M : Type 1} → statement M
+ingest-spec =
     tie.close
     (tie.spec
     change-of-requires

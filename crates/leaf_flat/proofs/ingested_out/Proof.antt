@@ -1,9 +1,9 @@
--- `leaf_updater::ingested_out` meets its contract.
+-- `leaf_flat::ingested_out` meets its contract.
 -- Assumes nothing.
-use Rattle.leaf_updater.proofs.Replies.{ingest-refused, ingest-quiet, ingest-reported}
+use Rattle.leaf_flat.proofs.Replies.{ingest-refused, ingest-quiet, ingest-reported}
 use borrow.Author.Needs.{needs}
-use Rattle.leaf_updater.proofs.ingested_out.Statement.{statement}
-use Rattle.leaf_updater.proofs.ingested_out.Tie as tie
+use Rattle.leaf_flat.proofs.ingested_out.Statement.{statement}
+use Rattle.leaf_flat.proofs.ingested_out.Tie as tie
 
 enum-known-reply : tie.Need-enum-known-reply
 enum-known-reply c = search needs

@@ -1,9 +1,9 @@
--- `leaf_updater::digested_out` meets its contract.
+-- `leaf_flat::digested_out` meets its contract.
 -- Assumes nothing.
-use Rattle.leaf_updater.proofs.Replies.{digest-refused, digest-finished, digest-waiting}
+use Rattle.leaf_flat.proofs.Replies.{digest-refused, digest-finished, digest-waiting}
 use borrow.Author.Needs.{needs}
-use Rattle.leaf_updater.proofs.digested_out.Statement.{statement}
-use Rattle.leaf_updater.proofs.digested_out.Tie as tie
+use Rattle.leaf_flat.proofs.digested_out.Statement.{statement}
+use Rattle.leaf_flat.proofs.digested_out.Tie as tie
 
 enum-known-reply : tie.Need-enum-known-reply
 enum-known-reply c = search needs

@@ -1,0 +1,2 @@
+-- The replies of the calls over the flat list, in numbers.
+pub mod Reply
