@@ -39,14 +39,12 @@ ghost use Rattle.leaf_node.specs.Reply.{keyReply, valueReply, getReply, sizeRep
 ghost use Rattle.leaf_builder.specs.Rebuild.{rebuildVerdict, rebuildLeaves};
 ghost use Rattle.leaf_work.specs.Tests.{isSet};
 ghost use Rattle.leaf_work.specs.Lent.{separatorOf};
-ghost use Rattle.leaf_work.specs.Outcome as outcome;
-ghost use Rattle.leaf_work.specs.Outcome.{Opened, openOf, replyNumber, Changed, nextBaseOf, removeCutoffOf, twinOf, partOf, inScopeOf};
-ghost use Rattle.leaf_work.specs.Digest as digesting;
+ghost use Rattle.leaf_work.specs.Outcome.{twinOf, partOf, inScopeOf};
 ghost use Rattle.leaf_open.specs.Opening.{openingOf};
 ghost use Rattle.leaf_ingest.specs.Reply.{changeOf};
 ghost use Rattle.leaf_pending.specs.Reply.{twinOut};
-ghost use Rattle.leaf_take.specs.Reply.{changeGiven, reportOut};
-ghost use Rattle.leaf_within.specs.Reply.{gaveOut};
+ghost use Rattle.leaf_take.specs.Reply.{changeGiven};
+ghost use Rattle.leaf_updater.specs.Calls.{OpenSays, IngestSays, DigestSays, NextBaseSays, RemoveCutoffSays};
 ghost use Rattle.leaf_updater.specs.Copy.{copiedWhole};
 ghost use Rattle.leaf_updater.specs.Reply.{keyOut, refusedValue, foundValue, valueOut, getOut, sizeOut};
 
@@ -245,7 +243,7 @@ pub extern "C" fn leaf_open(
     cut: u8,
     cutoff: &[u8; 32],
 ) -> u8
-    ensures { λ r. ⌜ (let o : Opened = openOf 4096 (openingOf (isSet based) (now (page .entry)) (now (separator .entry)) (isSet cut) (now (cutoff .entry))) (now (work .entry)) (now (list .entry)) (now (store .entry)) in (r ≡ replyNumber (o .reply)) × (now (work .exit) ≡ o .work) × (now (list .exit) ≡ o .list) × (now (store .exit) ≡ o .store)) ⌝ }
+    ensures { λ r. ⌜ OpenSays (openingOf (isSet based) (now (page .entry)) (now (separator .entry)) (isSet cut) (now (cutoff .entry))) (now (work .entry)) (now (list .entry)) (now (store .entry)) r (now (work .exit)) (now (list .exit)) (now (store .exit)) ⌝ }
 {
     let step = open_step(
         *work,
@@ -274,7 +272,7 @@ pub extern "C" fn leaf_ingest(
     flag: u8,
     value: &[u8],
 ) -> LeafReport
-    ensures { λ r. ⌜ (let o : outcome.Ingested = outcome.ingestOf 4096 (now (work .entry)) (now (list .entry)) (now (store .entry)) (now (page .entry)) (now (key .entry)) (changeOf (changeGiven put flag) (now (value .entry))) in (r ≡ reportOut (o .reply)) × (now (work .exit) ≡ o .work) × (now (list .exit) ≡ o .list) × (now (store .exit) ≡ o .store)) ⌝ }
+    ensures { λ r. ⌜ IngestSays (now (work .entry)) (now (list .entry)) (now (store .entry)) (now (page .entry)) (now (key .entry)) (changeOf (changeGiven put flag) (now (value .entry))) r (now (work .exit)) (now (list .exit)) (now (store .exit)) ⌝ }
 {
     let begun = start(*work, page);
     let at = pass_entries(list, page, begun);
@@ -295,7 +293,7 @@ pub extern "C" fn leaf_digest(
     area: &mut [u8],
     tickets: &mut [u8],
 ) -> LeafGave
-    ensures { λ r. ⌜ (let o : digesting.Digested = digesting.digestOf 4096 (now (work .entry)) (now (list .entry)) (now (store .entry)) (now (page .entry)) (now (area .entry)) (now (tickets .entry)) in (r ≡ gaveOut (o .reply)) × (now (work .exit) ≡ o .work) × (now (list .exit) ≡ o .list) × (now (store .exit) ≡ o .store) × (now (area .exit) ≡ o .area) × (now (tickets .exit) ≡ o .tickets)) ⌝ }
+    ensures { λ r. ⌜ DigestSays (now (work .entry)) (now (list .entry)) (now (store .entry)) (now (page .entry)) (now (area .entry)) (now (tickets .entry)) r (now (work .exit)) (now (list .exit)) (now (store .exit)) (now (area .exit)) (now (tickets .exit)) ⌝ }
 {
     let mut rows = blank_rows();
     let mut keys = blank_keys();
@@ -326,7 +324,7 @@ pub extern "C" fn leaf_next_base(
     cut: u8,
     cutoff: &[u8; 32],
 ) -> u8
-    ensures { λ r. ⌜ (let o : Changed = nextBaseOf 4096 (now (work .entry)) (now (list .entry)) (now (store .entry)) (now (page .entry)) (now (separator .entry)) (isSet cut) (now (cutoff .entry)) in (r ≡ replyNumber (o .reply)) × (now (work .exit) ≡ o .work)) ⌝ }
+    ensures { λ r. ⌜ NextBaseSays (now (work .entry)) (now (list .entry)) (now (store .entry)) (now (page .entry)) (now (separator .entry)) (isSet cut) (now (cutoff .entry)) r (now (work .exit)) ⌝ }
 {
     let begun = start_closed(*work);
     let at = pass_entries(list, page, begun);
@@ -338,7 +336,7 @@ pub extern "C" fn leaf_next_base(
 // Removes the cutoff of a work that waits. Answers 0, or the refusal.
 #[no_mangle]
 pub extern "C" fn leaf_remove_cutoff(work: &mut Work, list: &[Entry], store: &[u8]) -> u8
-    ensures { λ r. ⌜ (let o : Changed = removeCutoffOf 4096 (now (work .entry)) (now (list .entry)) (now (store .entry)) in (r ≡ replyNumber (o .reply)) × (now (work .exit) ≡ o .work)) ⌝ }
+    ensures { λ r. ⌜ RemoveCutoffSays (now (work .entry)) (now (list .entry)) (now (store .entry)) r (now (work .exit)) ⌝ }
 {
     let begun = start_closed(*work);
     let at = pass_entries(list, store, begun);

@@ -1,0 +1,2 @@
+-- The claim about the exported calls.
+pub mod Claimed

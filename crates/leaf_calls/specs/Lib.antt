@@ -1,0 +1,2 @@
+-- Sequences of the exported calls.
+pub mod Run
