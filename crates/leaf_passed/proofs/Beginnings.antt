@@ -1,30 +1,32 @@
 -- How a pass begins, and one entry more. Assumes nothing.
-use mathlib.Core.Path.{_≡_, refl, sym, _∙_}
+use mathlib.Core.Path.{_≡_, refl, sym, ap, _∙_}
 use mathlib.Core.Bool.{Bool, true, false, not, _&&_, false≢true}
 use mathlib.Core.List.{List, []}
-use Prim.Native.Nat.{ℕ, _≤_}
+use Prim.Native.Nat.{ℕ, _≤_, _<_}
 use native.Mathlib.Omega.{arith}
-use lib.Dec.{eqb, leb}
+use lib.Dec.{eqb, leb, ltb}
 use lib.ListN.{length}
-use borrow.Author.Tests.{eq-eqb, ne-eqb, not-true, not-false}
+use borrow.Author.Tests.{eq-eqb, ne-eqb, leb-true, le-leb, lt-leb, le-ltb, not-true, not-false}
 use Rattle.leaf_node.specs.Limits.{PageSize}
 use Rattle.leaf_node.specs.Page.{count}
 use Rattle.leaf_model.proofs.Tests.{and-left, and-right}
 use Rattle.leaf_work.specs.declared.Work.{Work}
 use Rattle.leaf_work.specs.declared.Entry.{Entry}
-use Rattle.leaf_work.specs.Tests.{oneOf}
+use Rattle.leaf_model.specs.Work.{zeroKey}
+use Rattle.leaf_work.specs.Tests.{sameBytes, oneOf}
 use Rattle.leaf_work.specs.Lent.{separatorOf, readsBase, regarded, cutoffOf}
 use Rattle.leaf_work.specs.Flat.{entryOf, rowOf}
+use Rattle.leaf_work.specs.Sound.{isBlank, anInsert}
 use Rattle.leaf_work.specs.Verdict.{keysVerdict}
 use Rattle.leaf_pass.specs.declared.Pass.{Pass}
 use Rattle.leaf_pass.specs.declared.Bounds.{Bounds}
-use Rattle.leaf_pass.specs.Pass.{Seeing, Small, passed, begun}
+use Rattle.leaf_pass.specs.Pass.{Seeing, Small, blankPassed, passedBy, passed, begun}
 use Rattle.leaf_check.specs.Settled.{Regardable, boundsOf, recordRight}
 use Rattle.leaf_check.proofs.Results.{no-page}
 use Rattle.leaf_check.proofs.Sounds.{the-pass-sees, it-begins-small}
 use Rattle.leaf_check.proofs.Verdicts.{the-regarded-is-good}
 use Rattle.leaf_passed.specs.declared.Passing.{Passing}
-use Rattle.leaf_passed.specs.Passed.{goes, beginning, beginningOf, closedBeginning, pageNumber, seen, passedOne, PassingOn}
+use Rattle.leaf_passed.specs.Passed.{goes, beginning, beginningOf, closedBeginning, pageNumber, seen, withPass, passedOne, PassingOn}
 
 -- ---- whether it goes
 
@@ -95,6 +97,20 @@ module _ (page : List ℕ) (at : Passing) (e : Entry) where
   unfolding passedOne
   a-stopped-pass-stays h o = (rw (not-true (at .go) h), o)
 
+  pub an-unused-entry-behind-all-is-passed : not (at .go) ≡ false → PassingOn at page → (t : Bool) → t ≡ (leb (at .bounds .used) (at .pass .seen) && isBlank e) → t ≡ true
+      → (at ≡ passedOne page at e) × (PassingOn at page)
+  unfolding passedOne passed
+  an-unused-entry-behind-all-is-passed h o t f k =
+      let y : (leb (at .bounds .used) (at .pass .seen) && isBlank e) ≡ true = sym f ∙ k in
+      let u : ltb (at .pass .seen) (at .bounds .used) ≡ false = le-ltb (at .pass .seen) (at .bounds .used) (leb-true _ _ (and-left (leb (at .bounds .used) (at .pass .seen)) (isBlank e) y)) in
+      let b : isBlank e ≡ true = and-right (leb (at .bounds .used) (at .pass .seen)) (isBlank e) y in
+      let q : at .pass ≡ oneOf (at .go) (passed (at .bounds) (seen at page) (at .pass) e) (at .pass) = rw (not-false (at .go) h, u) (go (at .pass .right) b) in
+      (ap (withPass at) q, o)
+    where
+      go : (r : Bool) → isBlank e ≡ true → at .pass ≡ passedBy (at .bounds) (seen at page) (at .pass) e r false (anInsert e)
+      go true b = rw (blankPassed, b)
+      go false b = refl
+
   pub a-pass-goes-on : not (at .go) ≡ false → PassingOn at page → (p : List ℕ) → p ≡ oneOf (at .reads) page [] → (z : Pass)
       → (z ≡ passed (at .bounds) p (at .pass) (entryOf (rowOf e) (e .key))) × (Small (at .bounds) z)
       → (_≡_ {A = Passing} (record { number = at .number; go = at .go; reads = at .reads; n = at .n; bounds = at .bounds; pass = z }) (passedOne page at e))
@@ -104,3 +120,14 @@ module _ (page : List ℕ) (at : Passing) (e : Entry) where
 
   pub a-pass-sees-its-page : not (at .go) ≡ false → PassingOn at page → (p : List ℕ) → p ≡ oneOf (at .reads) page [] → Seeing (at .bounds) p (at .n)
   a-pass-sees-its-page h o p k = rw k (o .sees (not-false (at .go) h))
+
+module _ (e : Entry) (t : Bool) (f : t ≡ sameBytes (e .key) zeroKey) where
+  pub an-unused-entry-is-blank : (eqb (e .kind) 0 && (eqb (e .from) 0 && (eqb (e .to) 0 && (eqb (e .sum) 0 && (t && eqb (e .flag) 0))))) ≡ isBlank e
+  an-unused-entry-is-blank = rw f
+
+module _ (used seen : ℕ) (e : Entry) where
+  pub behind-all-the-entry-decides : used ≤ seen → (t : Bool) → t ≡ isBlank e → t ≡ (leb used seen && isBlank e)
+  behind-all-the-entry-decides h t f = rw (le-leb used seen h) f
+
+  pub before-that-nothing-is-behind-all : seen < used → false ≡ (leb used seen && isBlank e)
+  before-that-nothing-is-behind-all h = rw (lt-leb used seen h)

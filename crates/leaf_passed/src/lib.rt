@@ -11,6 +11,7 @@ use leaf_check::records_in;
 use leaf_check::regard;
 use leaf_pass::Bounds;
 use leaf_pass::Pass;
+use leaf_pass::is_zero_key;
 use leaf_pass::pass_entry;
 use leaf_pass::zeros_from;
 use leaf_work::Entry;
@@ -19,7 +20,8 @@ use refusal::OUT_OF_TURN;
 use refusal::ROOM_LENGTH;
 use refusal::UNSOUND;
 ghost use mathlib.Core.Path.{_≡_};
-ghost use mathlib.Core.Bool.{true};
+ghost use mathlib.Core.Bool.{true, _&&_};
+ghost use lib.Dec.{leb};
 ghost use mathlib.Core.List.{List, []};
 ghost use Prim.Native.Nat.{ℕ, _≤_};
 ghost use lib.ListN.{length};
@@ -27,6 +29,7 @@ ghost use Rattle.leaf_node.specs.Limits.{PageSize};
 ghost use Rattle.leaf_node.specs.Page.{count};
 ghost use Rattle.leaf_work.specs.Tests.{oneOf};
 ghost use Rattle.leaf_work.specs.Lent.{roomRight, regarded};
+ghost use Rattle.leaf_work.specs.Sound.{isBlank};
 ghost use Rattle.leaf_pass.specs.Pass.{Seeing, Small};
 ghost use Rattle.leaf_check.specs.Settled.{boundsOf};
 ghost use Rattle.leaf_passed.specs.Passed.{goes, beginning, beginningOf, closedBeginning, seen, passedOne, PassingOn, soundAt, lentAt, closedAt};
@@ -111,12 +114,35 @@ fn read_if(reads: bool, page: &[u8]) -> &[u8]
     &page[..0]
 }
 
-// The pass after one more entry.
+// Whether an entry is unused.
+fn is_unused(entry: Entry) -> bool
+    ensures { λ r. ⌜ r ≡ isBlank entry ⌝ }
+{
+    let key = entry.key;
+    (entry.kind == 0)
+        & ((entry.from == 0)
+            & ((entry.to == 0) & ((entry.sum == 0) & (is_zero_key(&key) & (entry.flag == 0)))))
+}
+
+// Whether all used entries were seen and this one is unused.
+fn is_behind_all(used: usize, seen: usize, entry: Entry) -> bool
+    ensures { λ r. ⌜ r ≡ (leb used seen && isBlank entry) ⌝ }
+{
+    if used <= seen {
+        return is_unused(entry);
+    }
+    false
+}
+
+// The pass after one more entry. Most lists are longer than what is listed, so an unused entry behind the used ones is tested first, by itself.
 pub fn pass_one(at: Passing, entry: Entry, page: &[u8]) -> Passing
     requires { ⌜ PassingOn at (now page) ⌝ }
     ensures { λ r. ⌜ (r ≡ passedOne (now (page .entry)) at entry) × (PassingOn r (now (page .entry))) ⌝ }
 {
     if !at.go {
+        return at;
+    }
+    if is_behind_all(at.bounds.used, at.pass.seen, entry) {
         return at;
     }
     let kind = entry.kind as usize;

@@ -1,3 +1,5 @@
+-- `leaf_passed::begin_closed` meets its contract.
+-- Assumes nothing.
 use Rattle.leaf_passed.proofs.Beginnings.{an-open-work-is-not-passed, a-closed-work-is-passed}
 use borrow.Author.Needs.{needs}
 use Rattle.leaf_passed.proofs.begin_closed.Statement.{statement}
@@ -6,21 +8,17 @@ use Rattle.leaf_passed.proofs.begin_closed.Reads as reads
 use Rattle.leaf_passed.proofs.begin_closed.Lts as lts
 use Rattle.leaf_passed.proofs.begin_with.Reads as begin-with-reads
 
--- src/lib.rt:97:9
 begin-with-requires : tie.Need-begin-with-requires
 begin-with-requires c κs = search needs
 
--- src/lib.rt:97:9
 returns : tie.Need-returns
 returns c =
     let start = c .before .before .before in
     an-open-work-is-not-passed _ (start .pre) _ _ (c .before .if1 .taken) (c .begin-with .ensures)
 
--- src/lib.rt:99:5
 begin-with-requires-2 : tie.Need-begin-with-requires-2
 begin-with-requires-2 c κs = search needs
 
--- src/lib.rt:92:1
 returns-2 : tie.Need-returns-2
 returns-2 c =
     let start = c .before .before .before in

@@ -1,3 +1,5 @@
+-- `leaf_passed::begin_pass` meets its contract.
+-- Assumes nothing.
 use Rattle.leaf_passed.proofs.Beginnings.{a-refused-page-is-not-counted, a-good-page-is-counted}
 use Rattle.leaf_check.proofs.Verdicts.{the-regarded-is-good}
 use borrow.Author.Needs.{needs}
@@ -11,38 +13,30 @@ use Rattle.leaf_check.proofs.records_in.Reads as records-in-reads
 use Rattle.leaf_check.proofs.regard.Reads as regard-reads
 use Rattle.leaf_passed.proofs.begin_with.Reads as begin-with-reads
 
--- src/lib.rt:82:9
 reads-base-requires : tie.Need-reads-base-requires
 reads-base-requires c κs = search needs
 
--- src/lib.rt:83:9
 page-verdict-requires : tie.Need-page-verdict-requires
 page-verdict-requires c κs = search needs
 
--- src/lib.rt:85:9
 begin-with-requires : tie.Need-begin-with-requires
 begin-with-requires c κs = search needs
 
--- src/lib.rt:85:9
 returns : tie.Need-returns
 returns c =
     let judged = c .before .before in
     let start = judged .before .before .before in
     a-refused-page-is-not-counted _ (start .pre) _ _ _ (judged .before .reads-base .ensures) _ (judged .page-verdict .ensures) _ (c .before .if1 .taken) (c .begin-with .ensures)
 
--- src/lib.rt:87:24
 regard-requires : tie.Need-regard-requires
 regard-requires c κs = search needs
 
--- src/lib.rt:87:9
 records-in-requires : tie.Need-records-in-requires
 records-in-requires c κs = (search needs, search (the-regarded-is-good, needs))
 
--- src/lib.rt:88:5
 begin-with-requires-2 : tie.Need-begin-with-requires-2
 begin-with-requires-2 c κs = search needs
 
--- src/lib.rt:78:1
 returns-2 : tie.Need-returns-2
 returns-2 c =
     let counted = c .before in

@@ -1,3 +1,5 @@
+-- `leaf_passed::begin_with` meets its contract.
+-- Assumes nothing.
 use Rattle.leaf_passed.proofs.Beginnings.{it-begins-with}
 use borrow.Author.Needs.{needs}
 use Rattle.leaf_passed.proofs.begin_with.Statement.{statement}
@@ -8,19 +10,15 @@ use Rattle.leaf_check.proofs.begin.Reads as begin-reads
 use Rattle.leaf_check.proofs.bounds_of.Reads as bounds-of-reads
 use Rattle.leaf_passed.proofs.may_go.Reads as may-go-reads
 
--- src/lib.rt:69:13
 may-go-requires : tie.Need-may-go-requires
 may-go-requires c κs = search needs
 
--- src/lib.rt:72:17
 bounds-of-requires : tie.Need-bounds-of-requires
 bounds-of-requires c κs = search needs
 
--- src/lib.rt:73:15
 begin-requires : tie.Need-begin-requires
 begin-requires c κs = search needs
 
--- src/lib.rt:63:1
 returns : tie.Need-returns
 returns c = search (it-begins-with, needs)
 

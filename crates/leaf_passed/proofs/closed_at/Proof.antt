@@ -1,3 +1,5 @@
+-- `leaf_passed::closed_at` meets its contract.
+-- Assumes nothing.
 use Rattle.leaf_passed.proofs.Steps.{a-closed-call-wants-room, an-open-work-is-out-of-turn, none-is-seen, right-room-is-short, an-unsound-work-is-refused, a-closed-work-is-accepted}
 use borrow.Author.Needs.{needs}
 use Rattle.leaf_passed.proofs.closed_at.Statement.{statement}
@@ -7,31 +9,24 @@ use Rattle.leaf_passed.proofs.closed_at.Lts as lts
 use Rattle.leaf_passed.proofs.is_sound_at.Reads as is-sound-at-reads
 use Rattle.leaf_passed.proofs.room_fits.Reads as room-fits-reads
 
--- src/lib.rt:212:9
 room-fits-requires : tie.Need-room-fits-requires
 room-fits-requires c κs = search needs
 
--- src/lib.rt:213:9
 returns : tie.Need-returns
 returns c = search (a-closed-call-wants-room, needs)
 
--- src/lib.rt:216:9
 returns-2 : tie.Need-returns-2
 returns-2 c = search (an-open-work-is-out-of-turn, needs)
 
--- src/lib.rt:218:47
 slice-aggregate-is-sound-at : tie.Need-slice-aggregate-is-sound-at
 slice-aggregate-is-sound-at c = search needs
 
--- src/lib.rt:218:9
 is-sound-at-requires : tie.Need-is-sound-at-requires
 is-sound-at-requires c κs = (search needs, search (none-is-seen, needs), search needs, search needs, search (right-room-is-short, needs))
 
--- src/lib.rt:219:9
 returns-3 : tie.Need-returns-3
 returns-3 c = search (an-unsound-work-is-refused, needs)
 
--- src/lib.rt:208:1
 returns-4 : tie.Need-returns-4
 returns-4 c = search (a-closed-work-is-accepted, needs)
 

@@ -1,3 +1,5 @@
+-- `leaf_passed::is_sound_at` meets its contract.
+-- Assumes nothing.
 use Rattle.leaf_passed.proofs.Steps.{a-stopped-pass-is-unsound, what-is-not-inside-is-unsound, the-filled-part-is-inside, unclear-bytes-are-unsound, a-wrong-entry-is-unsound, what-is-settled-is-sound}
 use borrow.Author.Tests.{not-false}
 use Rattle.leaf_check.proofs.Sounds.{same-low}
@@ -9,34 +11,27 @@ use Rattle.leaf_passed.proofs.is_sound_at.Lts as lts
 use Rattle.leaf_check.proofs.is_settled.Reads as is-settled-reads
 use Rattle.leaf_pass.proofs.zeros_from.Reads as zeros-from-reads
 
--- src/lib.rt:160:9
 returns : tie.Need-returns
 returns c = search (a-stopped-pass-is-unsound, needs)
 
--- src/lib.rt:163:9
 returns-2 : tie.Need-returns-2
 returns-2 c = search (what-is-not-inside-is-unsound, needs)
 
--- src/lib.rt:165:9
 zeros-from-requires : tie.Need-zeros-from-requires
 zeros-from-requires c κs = (search (the-filled-part-is-inside, needs), search needs)
 
--- src/lib.rt:166:9
 returns-3 : tie.Need-returns-3
 returns-3 c = search (unclear-bytes-are-unsound, needs)
 
--- src/lib.rt:169:9
 returns-4 : tie.Need-returns-4
 returns-4 c = search (a-wrong-entry-is-unsound, needs)
 
--- src/lib.rt:171:5
 is-settled-requires : tie.Need-is-settled-requires
 is-settled-requires c κs =
     let going = c .before .before .before .before .before .before .before in
     let start = going .before .before .before .before in
     (start .pre .1 (not-false (start .args .at .go) (going .if1 .left)), start .pre .2, same-low (start .args .size) (start .args .work) (start .args .at .bounds) (start .pre .3), start .pre .0)
 
--- src/lib.rt:148:1
 returns-5 : tie.Need-returns-5
 returns-5 c = search (what-is-settled-is-sound, needs)
 

@@ -1,3 +1,5 @@
+-- `leaf_passed::lent_at` meets its contract.
+-- Assumes nothing.
 use Rattle.leaf_passed.proofs.Steps.{the-page-was-refused, the-room-is-refused, the-read-page-is-seen, right-room-is-short, the-work-is-refused, all-is-accepted}
 use borrow.Author.Needs.{needs}
 use Rattle.leaf_passed.proofs.lent_at.Statement.{statement}
@@ -8,31 +10,24 @@ use Rattle.leaf_passed.proofs.is_sound_at.Reads as is-sound-at-reads
 use Rattle.leaf_passed.proofs.read_if.Reads as read-if-reads
 use Rattle.leaf_passed.proofs.room_fits.Reads as room-fits-reads
 
--- src/lib.rt:196:9
 returns : tie.Need-returns
 returns c = search (the-page-was-refused, needs)
 
--- src/lib.rt:198:9
 room-fits-requires : tie.Need-room-fits-requires
 room-fits-requires c κs = search needs
 
--- src/lib.rt:199:9
 returns-2 : tie.Need-returns-2
 returns-2 c = search (the-room-is-refused, needs)
 
--- src/lib.rt:201:47
 read-if-requires : tie.Need-read-if-requires
 read-if-requires c κs = search needs
 
--- src/lib.rt:201:9
 is-sound-at-requires : tie.Need-is-sound-at-requires
 is-sound-at-requires c κs = (search needs, search (the-read-page-is-seen, needs), search needs, search needs, search (right-room-is-short, needs))
 
--- src/lib.rt:202:9
 returns-3 : tie.Need-returns-3
 returns-3 c = search (the-work-is-refused, needs)
 
--- src/lib.rt:184:1
 returns-4 : tie.Need-returns-4
 returns-4 c = search (all-is-accepted, needs)
 

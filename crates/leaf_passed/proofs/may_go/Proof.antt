@@ -1,3 +1,5 @@
+-- `leaf_passed::may_go` meets its contract.
+-- Assumes nothing.
 use Rattle.leaf_passed.proofs.Beginnings.{the-record-decides}
 use borrow.Author.Needs.{needs}
 use Rattle.leaf_passed.proofs.may_go.Statement.{statement}
@@ -6,11 +8,9 @@ use Rattle.leaf_passed.proofs.may_go.Reads as reads
 use Rattle.leaf_passed.proofs.may_go.Lts as lts
 use Rattle.leaf_check.proofs.record_right.Reads as record-right-reads
 
--- src/lib.rt:59:12
 record-right-requires : tie.Need-record-right-requires
 record-right-requires c κs = search needs
 
--- src/lib.rt:55:1
 returns : tie.Need-returns
 returns c = search (the-record-decides, needs)
 

@@ -1,3 +1,5 @@
+-- `leaf_passed::records_in_entry` meets its contract.
+-- Assumes nothing.
 use Rattle.leaf_passed.proofs.Seeking.{an-insert-is-one-record, a-chunk-backwards-is-none, a-chunk-is-a-range}
 use borrow.Author.Needs.{needs}
 use Rattle.leaf_passed.proofs.records_in_entry.Statement.{statement}
@@ -5,15 +7,12 @@ use Rattle.leaf_passed.proofs.records_in_entry.Tie as tie
 use Rattle.leaf_passed.proofs.records_in_entry.Reads as reads
 use Rattle.leaf_passed.proofs.records_in_entry.Lts as lts
 
--- src/lib.rt:230:9
 returns : tie.Need-returns
 returns c = search (an-insert-is-one-record, needs)
 
--- src/lib.rt:233:9
 returns-2 : tie.Need-returns-2
 returns-2 c = search (a-chunk-backwards-is-none, needs)
 
--- src/lib.rt:226:1
 returns-3 : tie.Need-returns-3
 returns-3 c = search (a-chunk-is-a-range, needs)
 

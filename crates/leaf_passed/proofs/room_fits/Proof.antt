@@ -1,3 +1,5 @@
+-- `leaf_passed::room_fits` meets its contract.
+-- Assumes nothing.
 use Rattle.leaf_passed.proofs.Steps.{the-numbers-decide}
 use borrow.Author.Needs.{needs}
 use Rattle.leaf_passed.proofs.room_fits.Statement.{statement}
@@ -5,15 +7,12 @@ use Rattle.leaf_passed.proofs.room_fits.Tie as tie
 use Rattle.leaf_passed.proofs.room_fits.Reads as reads
 use Rattle.leaf_passed.proofs.room_fits.Lts as lts
 
--- src/lib.rt:143:18
 sub-least : tie.Need-sub-least
 sub-least c = search needs
 
--- src/lib.rt:143:17
 add-least : tie.Need-add-least
 add-least c = search needs
 
--- src/lib.rt:139:1
 returns : tie.Need-returns
 returns c = search (the-numbers-decide, needs)
 

@@ -1,3 +1,5 @@
+-- `leaf_passed::seek_one` meets its contract.
+-- Assumes nothing.
 use Rattle.leaf_passed.proofs.Seeking.{what-is-found-stays, its-entry-is-found, it-is-further-on}
 use borrow.Author.Needs.{needs}
 use Rattle.leaf_passed.proofs.seek_one.Statement.{statement}
@@ -6,19 +8,15 @@ use Rattle.leaf_passed.proofs.seek_one.Reads as reads
 use Rattle.leaf_passed.proofs.seek_one.Lts as lts
 use Rattle.leaf_passed.proofs.records_in_entry.Reads as records-in-entry-reads
 
--- src/lib.rt:261:9
 returns : tie.Need-returns
 returns c = search (what-is-found-stays, needs)
 
--- src/lib.rt:263:9
 records-in-entry-requires : tie.Need-records-in-entry-requires
 records-in-entry-requires c κs = search needs
 
--- src/lib.rt:266:9
 returns-2 : tie.Need-returns-2
 returns-2 c = search (its-entry-is-found, needs)
 
--- src/lib.rt:257:1
 returns-3 : tie.Need-returns-3
 returns-3 c = search (it-is-further-on, needs)
 

@@ -1,3 +1,5 @@
+-- `leaf_step::next_base_number` meets its contract.
+-- Assumes nothing.
 use Rattle.leaf_step.proofs.Closed.{a-page-has-4096-bytes, a-closed-pass-goes-on-without-a-page, a-closed-pass-has-its-bounds, a-bad-base-refuses-the-next-base, a-closed-refusal-refuses-the-next-base, what-follows-is-required, what-follows-decides}
 use borrow.Author.Needs.{needs}
 use Rattle.leaf_step.proofs.next_base_number.Statement.{statement}
@@ -8,28 +10,23 @@ use Rattle.leaf_base.proofs.base_verdict.Reads as base-verdict-reads
 use Rattle.leaf_open.proofs.follows_verdict.Reads as follows-verdict-reads
 use Rattle.leaf_passed.proofs.closed_at.Reads as closed-at-reads
 
--- src/lib.rt:164:9
 base-verdict-requires : tie.Need-base-verdict-requires
 base-verdict-requires c κs = search needs
 
--- src/lib.rt:166:9
 returns : tie.Need-returns
 returns c = λ list any l k. a-bad-base-refuses-the-next-base _ _ _ _ _ _ (c .before .base-verdict .ensures) (c .if1 .taken) list
 
--- src/lib.rt:168:9
 closed-at-requires : tie.Need-closed-at-requires
 closed-at-requires c κs =
     let start = c .before .before .before .before in
     (a-page-has-4096-bytes, a-closed-pass-goes-on-without-a-page _ _ _ (start .pre), a-closed-pass-has-its-bounds _ _ _ (start .pre))
 
--- src/lib.rt:170:9
 returns-2 : tie.Need-returns-2
 returns-2 c =
     let closed = c .before in
     let based = closed .before .before in
     λ list any l k. a-closed-refusal-refuses-the-next-base _ _ _ _ _ (closed .closed-at .ensures) list any l k _ _ _ _ (based .base-verdict .ensures) (closed .before .if1 .left) (c .if2 .taken)
 
--- src/lib.rt:172:5
 follows-verdict-requires : tie.Need-follows-verdict-requires
 follows-verdict-requires c κs =
     let closed = c .before in
@@ -37,7 +34,6 @@ follows-verdict-requires c κs =
     let start = based .before .before .before in
     what-follows-is-required _ _ _ (start .pre) _ _ _ _ _ (based .base-verdict .ensures) (closed .before .if1 .left) _ (closed .closed-at .ensures) (c .if2 .left)
 
--- src/lib.rt:151:1
 returns-3 : tie.Need-returns-3
 returns-3 c =
     let closed = c .before .before in

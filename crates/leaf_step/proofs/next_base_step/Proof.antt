@@ -1,3 +1,5 @@
+-- `leaf_step::next_base_step` meets its contract.
+-- Assumes nothing.
 use Rattle.leaf_open.proofs.Again.{next-base-is}
 use borrow.Author.Needs.{needs}
 use Rattle.leaf_step.proofs.next_base_step.Statement.{statement}
@@ -8,19 +10,15 @@ use Rattle.leaf_open.proofs.next_base_work.Reads as next-base-work-reads
 use Rattle.leaf_open.proofs.reply_of.Reads as reply-of-reads
 use Rattle.leaf_step.proofs.next_base_number.Reads as next-base-number-reads
 
--- src/lib.rt:146:9
 next-base-number-requires : tie.Need-next-base-number-requires
 next-base-number-requires c κs = search needs
 
--- src/lib.rt:147:28
 next-base-work-requires : tie.Need-next-base-work-requires
 next-base-work-requires c κs = search needs
 
--- src/lib.rt:147:5
 reply-of-requires : tie.Need-reply-of-requires
 reply-of-requires c κs = search needs
 
--- src/lib.rt:133:1
 returns : tie.Need-returns
 returns c =
     let made = c .before in

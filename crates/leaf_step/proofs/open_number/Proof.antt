@@ -1,3 +1,5 @@
+-- `leaf_step::open_number` meets its contract.
+-- Assumes nothing.
 use Rattle.leaf_step.proofs.Openings.{the-base-comes-first, wrong-room-has-number-7, right-room-is-accepted}
 use borrow.Author.Needs.{needs}
 use Rattle.leaf_step.proofs.open_number.Statement.{statement}
@@ -7,25 +9,20 @@ use Rattle.leaf_step.proofs.open_number.Lts as lts
 use Rattle.leaf_open.proofs.open_base_verdict.Reads as open-base-verdict-reads
 use Rattle.leaf_passed.proofs.room_fits.Reads as room-fits-reads
 
--- src/lib.rt:83:9
 open-base-verdict-requires : tie.Need-open-base-verdict-requires
 open-base-verdict-requires c κs = search needs
 
--- src/lib.rt:85:9
 returns : tie.Need-returns
 returns c = λ list store l m. the-base-comes-first _ _ _ _ _ _ _ _ (c .before .open-base-verdict .ensures) list store l m (c .if1 .taken)
 
--- src/lib.rt:87:9
 room-fits-requires : tie.Need-room-fits-requires
 room-fits-requires c κs = search needs
 
--- src/lib.rt:88:9
 returns-2 : tie.Need-returns-2
 returns-2 c =
     let fitted = c .before in
     λ list store l m. wrong-room-has-number-7 _ _ _ _ _ _ _ _ (fitted .before .before .open-base-verdict .ensures) list store l m (fitted .before .if1 .left) _ (fitted .room-fits .ensures) (c .if2 .taken)
 
--- src/lib.rt:72:1
 returns-3 : tie.Need-returns-3
 returns-3 c =
     let fitted = c .before in

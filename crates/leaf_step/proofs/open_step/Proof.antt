@@ -1,3 +1,5 @@
+-- `leaf_step::open_step` meets its contract.
+-- Assumes nothing.
 use mathlib.Core.Path.{refl, _∙_}
 use Rattle.leaf_move.proofs.Settling.{settling-none-clears-all}
 use Rattle.leaf_step.proofs.Openings.{a-refused-opening-changes-nothing, an-accepted-opening-clears-all}
@@ -10,27 +12,21 @@ use Rattle.leaf_move.proofs.settle_bytes.Reads as settle-bytes-reads
 use Rattle.leaf_open.proofs.fresh_work.Reads as fresh-work-reads
 use Rattle.leaf_step.proofs.open_number.Reads as open-number-reads
 
--- src/lib.rt:106:9
 open-number-requires : tie.Need-open-number-requires
 open-number-requires c κs = search needs
 
--- src/lib.rt:116:9
 returns : tie.Need-returns
 returns c = λ list l. a-refused-opening-changes-nothing _ _ _ _ _ _ _ _ _ list l (c .before .open-number .ensures list _ l refl) (c .if1 .taken)
 
--- src/lib.rt:122:5
 settle-bytes-requires : tie.Need-settle-bytes-requires
 settle-bytes-requires c κs = search needs
 
--- src/lib.rt:126:15
 fresh-work-requires : tie.Need-fresh-work-requires
 fresh-work-requires c κs = search needs
 
--- src/lib.rt:94:1
 same-length : tie.Need-same-length
 same-length c = search needs
 
--- src/lib.rt:94:1
 returns-2 : tie.Need-returns-2
 returns-2 c =
     let settled = c .before .before .before in

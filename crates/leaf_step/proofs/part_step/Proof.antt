@@ -1,3 +1,5 @@
+-- `leaf_step::part_step` meets its contract.
+-- Assumes nothing.
 use Rattle.leaf_pending.proofs.Twins.{place-of-the-part, part-of-the-twin}
 use Rattle.leaf_step.proofs.Closed.{a-page-has-4096-bytes}
 use borrow.Author.Needs.{needs}
@@ -8,18 +10,15 @@ use Rattle.leaf_step.proofs.part_step.Lts as lts
 use Rattle.leaf_pending.proofs.part_at.Reads as part-at-reads
 use Rattle.leaf_step.proofs.twin_step.Reads as twin-step-reads
 
--- src/lib.rt:248:13
 twin-step-requires : tie.Need-twin-step-requires
 twin-step-requires c κs = search needs
 
--- src/lib.rt:248:5
 part-at-requires : tie.Need-part-at-requires
 part-at-requires c κs =
     let start = c .before .before .before in
     let h = start .pre in
     place-of-the-part 4096 _ (h .passed .list) _ _ (h .i) _ (c .twin-step .ensures (h .passed .list) (h .i) (h .passed .long) (h .passed .over) (h .sought)) a-page-has-4096-bytes
 
--- src/lib.rt:237:1
 returns : tie.Need-returns
 returns c = λ list i l k s. part-of-the-twin 4096 _ list _ _ i _ (c .before .twin-step .ensures list i l k s) _ (c .part-at .ensures)
 

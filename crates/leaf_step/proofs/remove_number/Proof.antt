@@ -1,3 +1,5 @@
+-- `leaf_step::remove_number` meets its contract.
+-- Assumes nothing.
 use Rattle.leaf_step.proofs.Closed.{a-page-has-4096-bytes, a-closed-pass-goes-on-without-a-page, a-closed-pass-has-its-bounds, a-closed-refusal-refuses-the-removal, only-a-waiting-work-loses-its-cutoff, a-waiting-work-loses-its-cutoff}
 use borrow.Author.Needs.{needs}
 use Rattle.leaf_step.proofs.remove_number.Statement.{statement}
@@ -6,23 +8,19 @@ use Rattle.leaf_step.proofs.remove_number.Reads as reads
 use Rattle.leaf_step.proofs.remove_number.Lts as lts
 use Rattle.leaf_passed.proofs.closed_at.Reads as closed-at-reads
 
--- src/lib.rt:180:9
 closed-at-requires : tie.Need-closed-at-requires
 closed-at-requires c κs =
     let start = c .before in
     (a-page-has-4096-bytes, a-closed-pass-goes-on-without-a-page _ _ _ (start .pre), a-closed-pass-has-its-bounds _ _ _ (start .pre))
 
--- src/lib.rt:182:9
 returns : tie.Need-returns
 returns c = λ list any l k. a-closed-refusal-refuses-the-removal _ _ _ _ _ (c .before .closed-at .ensures) list any l k (c .if1 .taken)
 
--- src/lib.rt:185:9
 returns-2 : tie.Need-returns-2
 returns-2 c =
     let passed = c .before .before in
     λ list any l k. only-a-waiting-work-loses-its-cutoff _ _ _ _ _ (passed .before .closed-at .ensures) list any l k (passed .if1 .left) (c .if2 .taken)
 
--- src/lib.rt:176:1
 returns-3 : tie.Need-returns-3
 returns-3 c =
     let passed = c .before .before in

@@ -1,3 +1,5 @@
+-- `leaf_step::remove_step` meets its contract.
+-- Assumes nothing.
 use Rattle.leaf_open.proofs.Again.{removal-is}
 use borrow.Author.Needs.{needs}
 use Rattle.leaf_step.proofs.remove_step.Statement.{statement}
@@ -8,19 +10,15 @@ use Rattle.leaf_open.proofs.remove_work.Reads as remove-work-reads
 use Rattle.leaf_open.proofs.reply_of.Reads as reply-of-reads
 use Rattle.leaf_step.proofs.remove_number.Reads as remove-number-reads
 
--- src/lib.rt:195:14
 remove-number-requires : tie.Need-remove-number-requires
 remove-number-requires c κs = search needs
 
--- src/lib.rt:195:61
 remove-work-requires : tie.Need-remove-work-requires
 remove-work-requires c κs = search needs
 
--- src/lib.rt:195:5
 reply-of-requires : tie.Need-reply-of-requires
 reply-of-requires c κs = search needs
 
--- src/lib.rt:191:1
 returns : tie.Need-returns
 returns c =
     let removed = c .before in

@@ -1,3 +1,5 @@
+-- `leaf_step::twin_step` meets its contract.
+-- Assumes nothing.
 use Rattle.leaf_step.proofs.Closed.{a-page-has-4096-bytes}
 use Rattle.leaf_step.proofs.Found.{a-pass-has-its-bounds, a-refused-read-has-no-place, a-found-entry-can-be-read, the-record-is-in-the-entry, the-rest-can-be-read, the-record-is-in-the-rest}
 use borrow.Author.Needs.{needs}
@@ -11,27 +13,22 @@ use Rattle.leaf_pending.proofs.refused.Reads as refused-reads
 use Rattle.leaf_pending.proofs.rest_record.Reads as rest-record-reads
 use Rattle.leaf_step.proofs.found_in_entry.Reads as found-in-entry-reads
 
--- src/lib.rt:224:9
 lent-at-requires : tie.Need-lent-at-requires
 lent-at-requires c κs =
     let start = c .before .before in
     (a-page-has-4096-bytes, start .pre .passed .on, a-pass-has-its-bounds _ _ _ _ (start .pre .passed))
 
--- src/lib.rt:226:9
 refused-requires : tie.Need-refused-requires
 refused-requires c κs = search needs
 
--- src/lib.rt:226:9
 returns : tie.Need-returns
 returns c =
     let judged = c .before .before in
     λ list i l k s. a-refused-read-has-no-place _ _ _ _ _ _ (judged .lent-at .ensures) list l k i _ (c .before .if1 .taken) (c .refused .ensures)
 
--- src/lib.rt:228:9
 regard-requires : tie.Need-regard-requires
 regard-requires c κs = search needs
 
--- src/lib.rt:231:9
 found-in-entry-requires : tie.Need-found-in-entry-requires
 found-in-entry-requires c κs =
     let regarded = c .before .before in
@@ -40,14 +37,12 @@ found-in-entry-requires c κs =
     let h = start .pre in
     a-found-entry-can-be-read _ _ _ _ _ _ (judged .lent-at .ensures) (h .passed .list) (h .passed .long) (h .passed .over) (regarded .before .if1 .left) _ (regarded .regard .ensures) (h .i) _ (h .sought) (c .before .if2 .taken)
 
--- src/lib.rt:231:9
 returns-2 : tie.Need-returns-2
 returns-2 c =
     let regarded = c .before .before .before in
     let judged = regarded .before .before in
     λ list i l k s. the-record-is-in-the-entry _ _ _ _ _ _ (judged .lent-at .ensures) list l k (regarded .before .if1 .left) _ (regarded .regard .ensures) i _ s (c .before .before .if2 .taken) _ (c .found-in-entry .ensures)
 
--- src/lib.rt:233:5
 rest-record-requires : tie.Need-rest-record-requires
 rest-record-requires c κs =
     let regarded = c .before in
@@ -56,7 +51,6 @@ rest-record-requires c κs =
     let h = start .pre in
     the-rest-can-be-read _ _ _ _ _ _ (judged .lent-at .ensures) (h .passed .list) (h .passed .long) (h .passed .over) (regarded .before .if1 .left) _ (regarded .regard .ensures) (h .i) _ (h .sought)
 
--- src/lib.rt:213:1
 returns-3 : tie.Need-returns-3
 returns-3 c =
     let regarded = c .before .before in

@@ -1,3 +1,5 @@
+-- `leaf_take::accepted_step` meets its contract.
+-- Assumes nothing.
 use Rattle.leaf_take.proofs.Values.{the-step-is-made}
 use borrow.Author.Needs.{needs}
 use Rattle.leaf_take.proofs.accepted_step.Statement.{statement}
@@ -12,51 +14,39 @@ use Rattle.leaf_take.proofs.flag_of.Reads as flag-of-reads
 use Rattle.leaf_take.proofs.insert_entry.Reads as insert-entry-reads
 use Rattle.leaf_take.proofs.place_of.Reads as place-of-reads
 
--- src/lib.rt:200:9
 chunks-requires : tie.Need-chunks-requires
 chunks-requires c κs = search needs
 
--- src/lib.rt:201:9
 added-requires : tie.Need-added-requires
 added-requires c κs = search needs
 
--- src/lib.rt:202:16
 add-next : tie.Need-add-next
 add-next c = search needs
 
--- src/lib.rt:205:44
 add-ingest-work : tie.Need-add-ingest-work
 add-ingest-work c = search needs
 
--- src/lib.rt:205:15
 ingest-work-requires : tie.Need-ingest-work-requires
 ingest-work-requires c κs = search needs
 
--- src/lib.rt:206:13
 place-of-requires : tie.Need-place-of-requires
 place-of-requires c κs = search needs
 
--- src/lib.rt:207:16
 chunk-entry-requires : tie.Need-chunk-entry-requires
 chunk-entry-requires c κs = search needs
 
--- src/lib.rt:208:15
 place-of-requires-2 : tie.Need-place-of-requires-2
 place-of-requires-2 c κs = search needs
 
--- src/lib.rt:209:43
 add-insert-entry : tie.Need-add-insert-entry
 add-insert-entry c = search needs
 
--- src/lib.rt:209:67
 flag-of-requires : tie.Need-flag-of-requires
 flag-of-requires c κs = search needs
 
--- src/lib.rt:209:17
 insert-entry-requires : tie.Need-insert-entry-requires
 insert-entry-requires c κs = search needs
 
--- src/lib.rt:188:1
 returns : tie.Need-returns
 returns c =
     let flagged = c .before in

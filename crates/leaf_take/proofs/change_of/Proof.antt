@@ -1,3 +1,5 @@
+-- `leaf_take::change_of` meets its contract.
+-- Assumes nothing.
 use Rattle.leaf_take.proofs.Values.{no-put-is-a-deletion, a-put-has-its-flag}
 use borrow.Author.Needs.{needs}
 use Rattle.leaf_take.proofs.change_of.Statement.{statement}
@@ -5,11 +7,9 @@ use Rattle.leaf_take.proofs.change_of.Tie as tie
 use Rattle.leaf_take.proofs.change_of.Reads as reads
 use Rattle.leaf_take.proofs.change_of.Lts as lts
 
--- src/lib.rt:56:9
 returns : tie.Need-returns
 returns c = search (no-put-is-a-deletion, needs)
 
--- src/lib.rt:52:1
 returns-2 : tie.Need-returns-2
 returns-2 c = search (a-put-has-its-flag, needs)
 

@@ -1,3 +1,5 @@
+-- `leaf_take::chunks` meets its contract.
+-- Assumes nothing.
 use Rattle.leaf_take.proofs.Values.{a-chunk-is-listed, no-chunk-is-listed}
 use borrow.Author.Needs.{needs}
 use Rattle.leaf_take.proofs.chunks.Statement.{statement}
@@ -5,11 +7,9 @@ use Rattle.leaf_take.proofs.chunks.Tie as tie
 use Rattle.leaf_take.proofs.chunks.Reads as reads
 use Rattle.leaf_take.proofs.chunks.Lts as lts
 
--- src/lib.rt:128:9
 returns : tie.Need-returns
 returns c = search (a-chunk-is-listed, needs)
 
--- src/lib.rt:124:1
 returns-2 : tie.Need-returns-2
 returns-2 c = search (no-chunk-is-listed, needs)
 

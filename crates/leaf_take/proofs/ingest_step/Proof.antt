@@ -1,3 +1,5 @@
+-- `leaf_take::ingest_step` meets its contract.
+-- Assumes nothing.
 use Rattle.leaf_step.proofs.Closed.{a-page-has-4096-bytes}
 use Rattle.leaf_step.proofs.Found.{a-pass-has-its-bounds}
 use Rattle.leaf_take.proofs.Taking.{a-refused-call-leaves-all, what-is-accepted-takes-the-step, an-accepted-call-takes-its-step}
@@ -12,21 +14,17 @@ use Rattle.leaf_take.proofs.change_of.Reads as change-of-reads
 use Rattle.leaf_take.proofs.refused_step.Reads as refused-step-reads
 use Rattle.leaf_take.proofs.take_step.Reads as take-step-reads
 
--- src/lib.rt:254:9
 lent-at-requires : tie.Need-lent-at-requires
 lent-at-requires c κs =
     let start = c .before .before .before .before in
     (a-page-has-4096-bytes, start .pre .on, a-pass-has-its-bounds _ _ _ _ (start .pre))
 
--- src/lib.rt:256:9
 refused-step-requires : tie.Need-refused-step-requires
 refused-step-requires c κs = search needs
 
--- src/lib.rt:256:9
 same-length : tie.Need-same-length
 same-length c = search needs
 
--- src/lib.rt:256:9
 returns : tie.Need-returns
 returns c =
     let judged = c .before .before in
@@ -34,15 +32,12 @@ returns c =
     let args = start .args in
     λ list l k. rw (c .refused-step .ensures) (a-refused-call-leaves-all (args .work) (args .page .now) (args .at) (args .entries) (args .store .now) _ (judged .lent-at .ensures) list l k (args .key .now) _ (c .before .if1 .taken))
 
--- src/lib.rt:258:9
 regard-requires : tie.Need-regard-requires
 regard-requires c κs = search needs
 
--- src/lib.rt:265:9
 change-of-requires : tie.Need-change-of-requires
 change-of-requires c κs = search needs
 
--- src/lib.rt:259:5
 take-step-requires : tie.Need-take-step-requires
 take-step-requires c κs =
     let regarded = c .before .before in
@@ -51,11 +46,9 @@ take-step-requires c κs =
     let args = start .args in
     what-is-accepted-takes-the-step (args .work) (args .page .now) (args .at) (args .entries) (args .store .now) _ (judged .lent-at .ensures) (start .pre) (regarded .before .if1 .left) _ (regarded .regard .ensures)
 
--- src/lib.rt:240:1
 same-length-2 : tie.Need-same-length-2
 same-length-2 c = search needs
 
--- src/lib.rt:240:1
 returns-2 : tie.Need-returns-2
 returns-2 c =
     let taken = c .before .before in

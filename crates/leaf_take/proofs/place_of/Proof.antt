@@ -1,3 +1,5 @@
+-- `leaf_take::place_of` meets its contract.
+-- Assumes nothing.
 use Rattle.leaf_take.proofs.Values.{what-is-not-listed-has-no-place, what-is-listed-stands-behind}
 use borrow.Author.Needs.{needs}
 use Rattle.leaf_take.proofs.place_of.Statement.{statement}
@@ -5,11 +7,9 @@ use Rattle.leaf_take.proofs.place_of.Tie as tie
 use Rattle.leaf_take.proofs.place_of.Reads as reads
 use Rattle.leaf_take.proofs.place_of.Lts as lts
 
--- src/lib.rt:138:9
 returns : tie.Need-returns
 returns c = search (what-is-not-listed-has-no-place, needs)
 
--- src/lib.rt:134:1
 returns-2 : tie.Need-returns-2
 returns-2 c = search (what-is-listed-stands-behind, needs)
 

@@ -1,3 +1,5 @@
+-- `leaf_take::refused_step` meets its contract.
+-- Assumes nothing.
 use Rattle.leaf_take.proofs.Values.{nothing-is-listed}
 use borrow.Author.Needs.{needs}
 use Rattle.leaf_take.proofs.refused_step.Statement.{statement}
@@ -6,11 +8,9 @@ use Rattle.leaf_take.proofs.refused_step.Reads as reads
 use Rattle.leaf_take.proofs.refused_step.Lts as lts
 use Rattle.leaf_take.proofs.blank_entry.Reads as blank-entry-reads
 
--- src/lib.rt:112:9
 blank-entry-requires : tie.Need-blank-entry-requires
 blank-entry-requires c κs = search needs
 
--- src/lib.rt:103:1
 returns : tie.Need-returns
 returns c = search (nothing-is-listed, needs)
 

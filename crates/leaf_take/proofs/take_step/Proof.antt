@@ -1,3 +1,5 @@
+-- `leaf_take::take_step` meets its contract.
+-- Assumes nothing.
 use Rattle.leaf_ingest.proofs.Numbers.{what-takes-an-ingest-admits-it}
 use Rattle.leaf_take.proofs.Taking.{a-refused-ingest-steps, the-value-has-room, the-step-has-room, an-accepted-ingest-steps}
 use borrow.Author.Needs.{needs}
@@ -13,17 +15,14 @@ use Rattle.leaf_take.proofs.accepted_step.Reads as accepted-step-reads
 use Rattle.leaf_take.proofs.refused_step.Reads as refused-step-reads
 use Rattle.leaf_take.proofs.report_out.Reads as report-out-reads
 
--- src/lib.rt:227:9
 admit-requires : tie.Need-admit-requires
 admit-requires c κs =
     let start = c .before .before .before in
     what-takes-an-ingest-admits-it _ _ (start .pre .list) _ _ (start .pre .takes)
 
--- src/lib.rt:229:9
 refused-step-requires : tie.Need-refused-step-requires
 refused-step-requires c κs = search needs
 
--- src/lib.rt:229:9
 returns : tie.Need-returns
 returns c =
     let admitted = c .before .before .before in
@@ -32,11 +31,9 @@ returns c =
     a-refused-ingest-steps _ (args .work) (args .entries) (args .store .now) (args .page .now) (args .key .now) (args .change) (args .value .now) _ _ (admitted .admit .ensures .0) (admitted .admit .ensures .1)
     (c .before .if1 .taken) _ (c .refused-step .ensures)
 
--- src/lib.rt:231:9
 value-of-requires : tie.Need-value-of-requires
 value-of-requires c κs = search needs
 
--- src/lib.rt:232:5
 copy-in-requires : tie.Need-copy-in-requires
 copy-in-requires c κs =
     let valued = c .before in
@@ -46,15 +43,12 @@ copy-in-requires c κs =
     the-value-has-room _ (args .work) (args .entries) (args .store .now) (args .page .now) (args .key .now) (args .change) (args .value .now) _ _ (admitted .admit .ensures .0) (admitted .admit .ensures .1)
     (start .pre) (valued .before .if1 .left) _ (valued .value-of .ensures)
 
--- src/lib.rt:233:28
 report-of-requires : tie.Need-report-of-requires
 report-of-requires c κs = search needs
 
--- src/lib.rt:233:9
 report-out-requires : tie.Need-report-out-requires
 report-out-requires c κs = search needs
 
--- src/lib.rt:234:5
 accepted-step-requires : tie.Need-accepted-step-requires
 accepted-step-requires c κs =
     let valued = c .before .before .before .before .before .before in
@@ -64,11 +58,9 @@ accepted-step-requires c κs =
     the-step-has-room _ (args .work) (args .entries) (args .store .now) (args .page .now) (args .key .now) (args .change) (args .value .now) _ _ (admitted .admit .ensures .0) (admitted .admit .ensures .1)
     (start .pre) (valued .before .if1 .left) _ (valued .value-of .ensures)
 
--- src/lib.rt:214:1
 same-length : tie.Need-same-length
 same-length c = search needs
 
--- src/lib.rt:214:1
 returns-2 : tie.Need-returns-2
 returns-2 c =
     let replied = c .before in

@@ -1,3 +1,5 @@
+-- `leaf_within::digest_within` meets its contract.
+-- Assumes nothing.
 use Rattle.leaf_within.proofs.Within.{gathers, a-long-list-is-refused, nothing-is-given-back, a-split-list-is-digested, no-more-is-given-back-than-there-is, the-first-entries-are-there}
 use borrow.Author.Needs.{needs}
 use Rattle.leaf_within.proofs.digest_within.Statement.{statement}
@@ -9,15 +11,12 @@ use Rattle.leaf_within.proofs.list_number.Reads as list-number-reads
 use Rattle.leaf_within.proofs.refused_digest.Reads as refused-digest-reads
 use Rattle.leaf_within.proofs.step_of.Reads as step-of-reads
 
--- src/lib.rt:134:37
 list-number-requires : tie.Need-list-number-requires
 list-number-requires c κs = search needs
 
--- src/lib.rt:134:9
 refused-digest-requires : tie.Need-refused-digest-requires
 refused-digest-requires c κs = search needs
 
--- src/lib.rt:134:9
 returns : tie.Need-returns
 returns c =
     let counted = c .before in
@@ -29,55 +28,43 @@ returns c =
       none .1,
     )
 
--- src/lib.rt:138:9
 slice-relend-prefix-digest : tie.Need-slice-relend-prefix-digest
 slice-relend-prefix-digest c = search needs
 
--- src/lib.rt:138:9
 slice-aggregate-digest : tie.Need-slice-aggregate-digest
 slice-aggregate-digest c =
     let start = c .before .before .before .before .before .before in
     the-first-entries-are-there _ _ (start .pre .0) (c .before .if1 .left)
 
--- src/lib.rt:139:9
 slice-relend-prefix-digest-2 : tie.Need-slice-relend-prefix-digest-2
 slice-relend-prefix-digest-2 c = search needs
 
--- src/lib.rt:139:9
 slice-aggregate-digest-2 : tie.Need-slice-aggregate-digest-2
 slice-aggregate-digest-2 c =
     let start = c .before .before .before .before .before .before .before in
     the-first-entries-are-there _ _ (start .pre .1) (c .before .before .if1 .left)
 
--- src/lib.rt:136:9
 digest-requires : tie.Need-digest-requires
 digest-requires c κs = search needs
 
--- src/lib.rt:147:5
 step-of-requires : tie.Need-step-of-requires
 step-of-requires c κs = search needs
 
--- src/lib.rt:120:1
 same-length : tie.Need-same-length
 same-length c = search needs
 
--- src/lib.rt:120:1
 same-length-2 : tie.Need-same-length-2
 same-length-2 c = search needs
 
--- src/lib.rt:120:1
 same-length-3 : tie.Need-same-length-3
 same-length-3 c = search needs
 
--- src/lib.rt:120:1
 same-length-4 : tie.Need-same-length-4
 same-length-4 c = search needs
 
--- src/lib.rt:120:1
 same-length-5 : tie.Need-same-length-5
 same-length-5 c = search needs
 
--- src/lib.rt:120:1
 returns-2 : tie.Need-returns-2
 returns-2 c =
     let given = c .before .before .before .before .before .before .before .before in

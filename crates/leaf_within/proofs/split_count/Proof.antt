@@ -1,3 +1,5 @@
+-- `leaf_within::split_count` meets its contract.
+-- Assumes nothing.
 use Rattle.leaf_within.proofs.Counts.{a-short-list-is-split-whole, a-long-list-is-split-in-part}
 use borrow.Author.Needs.{needs}
 use Rattle.leaf_within.proofs.split_count.Statement.{statement}
@@ -5,11 +7,9 @@ use Rattle.leaf_within.proofs.split_count.Tie as tie
 use Rattle.leaf_within.proofs.split_count.Reads as reads
 use Rattle.leaf_within.proofs.split_count.Lts as lts
 
--- src/lib.rt:45:9
 returns : tie.Need-returns
 returns c = search (a-short-list-is-split-whole, needs)
 
--- src/lib.rt:41:1
 returns-2 : tie.Need-returns-2
 returns-2 c = search (a-long-list-is-split-in-part, needs)
 

@@ -1,3 +1,5 @@
+-- `leaf_within::step_of` meets its contract.
+-- Assumes nothing.
 use Rattle.leaf_within.proofs.Counts.{a-refusal-gives-back-nothing, a-finished-digest-gives-back-all, a-waiting-digest-gives-back-all}
 use borrow.Author.Needs.{needs}
 use Rattle.leaf_within.proofs.step_of.Statement.{statement}
@@ -6,31 +8,24 @@ use Rattle.leaf_within.proofs.step_of.Reads as reads
 use Rattle.leaf_within.proofs.step_of.Lts as lts
 use Rattle.leaf_within.proofs.refused_digest.Reads as refused-digest-reads
 
--- src/lib.rt:95:23
 enum-known-reply : tie.Need-enum-known-reply
 enum-known-reply c = search needs
 
--- src/lib.rt:95:29
 refused-digest-requires : tie.Need-refused-digest-requires
 refused-digest-requires c κs = search needs
 
--- src/lib.rt:96:24
 enum-known-reply-2 : tie.Need-enum-known-reply-2
 enum-known-reply-2 c = search needs
 
--- src/lib.rt:106:21
 enum-known-reply-3 : tie.Need-enum-known-reply-3
 enum-known-reply-3 c = search needs
 
--- src/lib.rt:91:1
 returns : tie.Need-returns
 returns c = search (a-refusal-gives-back-nothing, needs)
 
--- src/lib.rt:91:1
 returns-2 : tie.Need-returns-2
 returns-2 c = search (a-finished-digest-gives-back-all, needs)
 
--- src/lib.rt:91:1
 returns-3 : tie.Need-returns-3
 returns-3 c = search (a-waiting-digest-gives-back-all, needs)
 
