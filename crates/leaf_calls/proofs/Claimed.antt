@@ -5,11 +5,9 @@ use mathlib.Core.Bool.{Bool, true, false}
 use mathlib.Core.Option.{Option}
 use mathlib.Core.List.{List, [], _∷_, _++_}
 use Prim.Native.Nat.{ℕ}
-use native.Mathlib.Omega.{arith}
 use lib.Dec.{eqb}
 use lib.ListN.{length}
 use borrow.Author.Tests.{eq-eqb, ne-eqb, eqb-true, eqb-false}
-use Rattle.leaf_node.specs.Limits.{PageSize}
 use Rattle.leaf_node.specs.Record.{Record}
 use Rattle.leaf_node.specs.Fits.{All, nil, cons}
 use Rattle.leaf_model.specs.Cut.{Cut}
@@ -27,14 +25,12 @@ use Rattle.leaf_take.specs.declared.LeafReport.{LeafReport}
 use Rattle.leaf_take.specs.Reply.{reportOut}
 use Rattle.leaf_within.specs.declared.LeafGave.{LeafGave}
 use Rattle.leaf_within.specs.Reply.{gaveOut}
+use Rattle.leaf_step.proofs.Closed.{a-page-has-4096-bytes}
 use Rattle.leaf_claim.specs.Sequence.{Call, ingest, digest, next-base, remove-cutoff, State, lent, openedTally, openedPage, fed, givenBy, answered, next, nexts, opened}
 use Rattle.leaf_claim.specs.Claim.{FormedOpening, Formed, Claim}
 use Rattle.leaf_claim.proofs.Claimed.{claim-holds-of-every-sequence}
 use Rattle.leaf_calls.specs.Run.{gaveIn, Run}
 use Rattle.leaf_calls.specs.Run as run
-
-page-size : PageSize 4096
-page-size = record { least = omega arith; most = omega arith }
 
 -- ---- the numbers of the replies
 
@@ -136,4 +132,4 @@ reached (run.uncut {s} h r w′ o) = one-more (reached h) remove-cutoff tt (rw (
 pub the-claim-holds-of-the-exported-calls : {s : State} → Run s → Claim 4096 s
 the-claim-holds-of-the-exported-calls h =
     let r = reached h in
-    subst (Claim 4096) (r .state-is) (claim-holds-of-every-sequence 4096 page-size (r .opening) (r .formed) (r .work) (r .list) (r .store) (r .accepted) (r .calls) (r .calls-formed))
+    subst (Claim 4096) (r .state-is) (claim-holds-of-every-sequence 4096 a-page-has-4096-bytes (r .opening) (r .formed) (r .work) (r .list) (r .store) (r .accepted) (r .calls) (r .calls-formed))

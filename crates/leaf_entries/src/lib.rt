@@ -43,7 +43,7 @@ fn entry_of(row: [usize; 5], key: [u8; 32]) -> Entry
 }
 
 // An unused entry.
-fn blank_entry() -> Entry
+pub fn blank_entry() -> Entry
     ensures { λ r. ⌜ r ≡ blank ⌝ }
 {
     Entry {

@@ -1,5 +1,6 @@
 // The ingest by value: it takes what the pass over its list came to, and answers the entries that are to be listed.
 use leaf_check::regard;
+use leaf_entries::blank_entry;
 use leaf_ingest::Change;
 use leaf_ingest::Kept;
 use leaf_ingest::Report;
@@ -85,19 +86,6 @@ fn report_out(reply: Report) -> LeafReport
 }
 
 // ---- the entries
-
-fn blank_entry() -> Entry
-    ensures { λ r. ⌜ r ≡ blank ⌝ }
-{
-    Entry {
-        kind: 0,
-        flag: 0,
-        from: 0,
-        to: 0,
-        sum: 0,
-        key: [0u8; 32],
-    }
-}
 
 // A refused ingest lists nothing.
 fn refused_step(work: Work, entries: usize, number: u8) -> IngestStep

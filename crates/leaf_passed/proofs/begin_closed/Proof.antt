@@ -4,9 +4,6 @@ use Rattle.leaf_passed.proofs.Beginnings.{an-open-work-is-not-passed, a
 use borrow.Author.Needs.{needs}
 use Rattle.leaf_passed.proofs.begin_closed.Statement.{statement}
 use Rattle.leaf_passed.proofs.begin_closed.Tie as tie
-use Rattle.leaf_passed.proofs.begin_closed.Reads as reads
-use Rattle.leaf_passed.proofs.begin_closed.Lts as lts
-use Rattle.leaf_passed.proofs.begin_with.Reads as begin-with-reads
 
 begin-with-requires : tie.Need-begin-with-requires
 begin-with-requires c κs = search needs

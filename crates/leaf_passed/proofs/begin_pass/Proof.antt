@@ -5,13 +5,6 @@ use Rattle.leaf_check.proofs.Verdicts.{the-regarded-is-good}
 use borrow.Author.Needs.{needs}
 use Rattle.leaf_passed.proofs.begin_pass.Statement.{statement}
 use Rattle.leaf_passed.proofs.begin_pass.Tie as tie
-use Rattle.leaf_passed.proofs.begin_pass.Reads as reads
-use Rattle.leaf_passed.proofs.begin_pass.Lts as lts
-use Rattle.leaf_check.proofs.page_verdict.Reads as page-verdict-reads
-use Rattle.leaf_check.proofs.reads_base.Reads as reads-base-reads
-use Rattle.leaf_check.proofs.records_in.Reads as records-in-reads
-use Rattle.leaf_check.proofs.regard.Reads as regard-reads
-use Rattle.leaf_passed.proofs.begin_with.Reads as begin-with-reads
 
 reads-base-requires : tie.Need-reads-base-requires
 reads-base-requires c κs = search needs

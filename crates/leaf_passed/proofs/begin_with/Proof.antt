@@ -4,11 +4,6 @@ use Rattle.leaf_passed.proofs.Beginnings.{it-begins-with}
 use borrow.Author.Needs.{needs}
 use Rattle.leaf_passed.proofs.begin_with.Statement.{statement}
 use Rattle.leaf_passed.proofs.begin_with.Tie as tie
-use Rattle.leaf_passed.proofs.begin_with.Reads as reads
-use Rattle.leaf_passed.proofs.begin_with.Lts as lts
-use Rattle.leaf_check.proofs.begin.Reads as begin-reads
-use Rattle.leaf_check.proofs.bounds_of.Reads as bounds-of-reads
-use Rattle.leaf_passed.proofs.may_go.Reads as may-go-reads
 
 may-go-requires : tie.Need-may-go-requires
 may-go-requires c κs = search needs

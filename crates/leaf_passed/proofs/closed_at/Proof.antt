@@ -4,10 +4,6 @@ use Rattle.leaf_passed.proofs.Steps.{a-closed-call-wants-room, an-open-
 use borrow.Author.Needs.{needs}
 use Rattle.leaf_passed.proofs.closed_at.Statement.{statement}
 use Rattle.leaf_passed.proofs.closed_at.Tie as tie
-use Rattle.leaf_passed.proofs.closed_at.Reads as reads
-use Rattle.leaf_passed.proofs.closed_at.Lts as lts
-use Rattle.leaf_passed.proofs.is_sound_at.Reads as is-sound-at-reads
-use Rattle.leaf_passed.proofs.room_fits.Reads as room-fits-reads
 
 room-fits-requires : tie.Need-room-fits-requires
 room-fits-requires c κs = search needs

@@ -4,9 +4,6 @@ use Rattle.leaf_passed.proofs.Beginnings.{behind-all-the-entry-decides,
 use borrow.Author.Needs.{needs}
 use Rattle.leaf_passed.proofs.is_behind_all.Statement.{statement}
 use Rattle.leaf_passed.proofs.is_behind_all.Tie as tie
-use Rattle.leaf_passed.proofs.is_behind_all.Reads as reads
-use Rattle.leaf_passed.proofs.is_behind_all.Lts as lts
-use Rattle.leaf_passed.proofs.is_unused.Reads as is-unused-reads
 
 is-unused-requires : tie.Need-is-unused-requires
 is-unused-requires c κs = search needs

@@ -6,10 +6,6 @@ use Rattle.leaf_check.proofs.Sounds.{same-low}
 use borrow.Author.Needs.{needs}
 use Rattle.leaf_passed.proofs.is_sound_at.Statement.{statement}
 use Rattle.leaf_passed.proofs.is_sound_at.Tie as tie
-use Rattle.leaf_passed.proofs.is_sound_at.Reads as reads
-use Rattle.leaf_passed.proofs.is_sound_at.Lts as lts
-use Rattle.leaf_check.proofs.is_settled.Reads as is-settled-reads
-use Rattle.leaf_pass.proofs.zeros_from.Reads as zeros-from-reads
 
 returns : tie.Need-returns
 returns c = search (a-stopped-pass-is-unsound, needs)

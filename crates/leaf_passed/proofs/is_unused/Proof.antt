@@ -4,9 +4,6 @@ use Rattle.leaf_passed.proofs.Beginnings.{an-unused-entry-is-blank}
 use borrow.Author.Needs.{needs}
 use Rattle.leaf_passed.proofs.is_unused.Statement.{statement}
 use Rattle.leaf_passed.proofs.is_unused.Tie as tie
-use Rattle.leaf_passed.proofs.is_unused.Reads as reads
-use Rattle.leaf_passed.proofs.is_unused.Lts as lts
-use Rattle.leaf_pass.proofs.is_zero_key.Reads as is-zero-key-reads
 
 is-zero-key-requires : tie.Need-is-zero-key-requires
 is-zero-key-requires c κs = search needs

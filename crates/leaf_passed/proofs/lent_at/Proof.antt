@@ -4,11 +4,6 @@ use Rattle.leaf_passed.proofs.Steps.{the-page-was-refused, the-room-is-
 use borrow.Author.Needs.{needs}
 use Rattle.leaf_passed.proofs.lent_at.Statement.{statement}
 use Rattle.leaf_passed.proofs.lent_at.Tie as tie
-use Rattle.leaf_passed.proofs.lent_at.Reads as reads
-use Rattle.leaf_passed.proofs.lent_at.Lts as lts
-use Rattle.leaf_passed.proofs.is_sound_at.Reads as is-sound-at-reads
-use Rattle.leaf_passed.proofs.read_if.Reads as read-if-reads
-use Rattle.leaf_passed.proofs.room_fits.Reads as room-fits-reads
 
 returns : tie.Need-returns
 returns c = search (the-page-was-refused, needs)

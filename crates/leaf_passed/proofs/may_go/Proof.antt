@@ -4,9 +4,6 @@ use Rattle.leaf_passed.proofs.Beginnings.{the-record-decides}
 use borrow.Author.Needs.{needs}
 use Rattle.leaf_passed.proofs.may_go.Statement.{statement}
 use Rattle.leaf_passed.proofs.may_go.Tie as tie
-use Rattle.leaf_passed.proofs.may_go.Reads as reads
-use Rattle.leaf_passed.proofs.may_go.Lts as lts
-use Rattle.leaf_check.proofs.record_right.Reads as record-right-reads
 
 record-right-requires : tie.Need-record-right-requires
 record-right-requires c κs = search needs

@@ -4,10 +4,6 @@ use Rattle.leaf_passed.proofs.Beginnings.{a-stopped-pass-stays, an-unus
 use borrow.Author.Needs.{needs}
 use Rattle.leaf_passed.proofs.pass_one.Statement.{statement}
 use Rattle.leaf_passed.proofs.pass_one.Tie as tie
-use Rattle.leaf_passed.proofs.pass_one.Reads as reads
-use Rattle.leaf_passed.proofs.pass_one.Lts as lts
-use Rattle.leaf_pass.proofs.pass_entry.Reads as pass-entry-reads
-use Rattle.leaf_passed.proofs.read_if.Reads as read-if-reads
 
 returns : tie.Need-returns
 returns c =

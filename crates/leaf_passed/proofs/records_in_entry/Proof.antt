@@ -4,8 +4,6 @@ use Rattle.leaf_passed.proofs.Seeking.{an-insert-is-one-record, a-chunk
 use borrow.Author.Needs.{needs}
 use Rattle.leaf_passed.proofs.records_in_entry.Statement.{statement}
 use Rattle.leaf_passed.proofs.records_in_entry.Tie as tie
-use Rattle.leaf_passed.proofs.records_in_entry.Reads as reads
-use Rattle.leaf_passed.proofs.records_in_entry.Lts as lts
 
 returns : tie.Need-returns
 returns c = search (an-insert-is-one-record, needs)

@@ -4,8 +4,6 @@ use Rattle.leaf_passed.proofs.Steps.{the-numbers-decide}
 use borrow.Author.Needs.{needs}
 use Rattle.leaf_passed.proofs.room_fits.Statement.{statement}
 use Rattle.leaf_passed.proofs.room_fits.Tie as tie
-use Rattle.leaf_passed.proofs.room_fits.Reads as reads
-use Rattle.leaf_passed.proofs.room_fits.Lts as lts
 
 sub-least : tie.Need-sub-least
 sub-least c = search needs

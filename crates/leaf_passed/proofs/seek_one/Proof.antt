@@ -4,9 +4,6 @@ use Rattle.leaf_passed.proofs.Seeking.{what-is-found-stays, its-entry-i
 use borrow.Author.Needs.{needs}
 use Rattle.leaf_passed.proofs.seek_one.Statement.{statement}
 use Rattle.leaf_passed.proofs.seek_one.Tie as tie
-use Rattle.leaf_passed.proofs.seek_one.Reads as reads
-use Rattle.leaf_passed.proofs.seek_one.Lts as lts
-use Rattle.leaf_passed.proofs.records_in_entry.Reads as records-in-entry-reads
 
 returns : tie.Need-returns
 returns c = search (what-is-found-stays, needs)

@@ -4,9 +4,6 @@ use Rattle.leaf_step.proofs.Found.{a-row-has-its-entrys-records}
 use borrow.Author.Needs.{needs}
 use Rattle.leaf_step.proofs.found_in_entry.Statement.{statement}
 use Rattle.leaf_step.proofs.found_in_entry.Tie as tie
-use Rattle.leaf_step.proofs.found_in_entry.Reads as reads
-use Rattle.leaf_step.proofs.found_in_entry.Lts as lts
-use Rattle.leaf_pending.proofs.entry_record.Reads as entry-record-reads
 
 cast-kind : tie.Need-cast-kind
 cast-kind c = search needs

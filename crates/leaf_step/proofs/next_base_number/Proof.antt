@@ -4,11 +4,6 @@ use Rattle.leaf_step.proofs.Closed.{a-page-has-4096-bytes, a-closed-pas
 use borrow.Author.Needs.{needs}
 use Rattle.leaf_step.proofs.next_base_number.Statement.{statement}
 use Rattle.leaf_step.proofs.next_base_number.Tie as tie
-use Rattle.leaf_step.proofs.next_base_number.Reads as reads
-use Rattle.leaf_step.proofs.next_base_number.Lts as lts
-use Rattle.leaf_base.proofs.base_verdict.Reads as base-verdict-reads
-use Rattle.leaf_open.proofs.follows_verdict.Reads as follows-verdict-reads
-use Rattle.leaf_passed.proofs.closed_at.Reads as closed-at-reads
 
 base-verdict-requires : tie.Need-base-verdict-requires
 base-verdict-requires c κs = search needs

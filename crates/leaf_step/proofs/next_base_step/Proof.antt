@@ -4,11 +4,6 @@ use Rattle.leaf_open.proofs.Again.{next-base-is}
 use borrow.Author.Needs.{needs}
 use Rattle.leaf_step.proofs.next_base_step.Statement.{statement}
 use Rattle.leaf_step.proofs.next_base_step.Tie as tie
-use Rattle.leaf_step.proofs.next_base_step.Reads as reads
-use Rattle.leaf_step.proofs.next_base_step.Lts as lts
-use Rattle.leaf_open.proofs.next_base_work.Reads as next-base-work-reads
-use Rattle.leaf_open.proofs.reply_of.Reads as reply-of-reads
-use Rattle.leaf_step.proofs.next_base_number.Reads as next-base-number-reads
 
 next-base-number-requires : tie.Need-next-base-number-requires
 next-base-number-requires c κs = search needs

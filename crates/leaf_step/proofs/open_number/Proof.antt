@@ -4,10 +4,6 @@ use Rattle.leaf_step.proofs.Openings.{the-base-comes-first, wrong-room-
 use borrow.Author.Needs.{needs}
 use Rattle.leaf_step.proofs.open_number.Statement.{statement}
 use Rattle.leaf_step.proofs.open_number.Tie as tie
-use Rattle.leaf_step.proofs.open_number.Reads as reads
-use Rattle.leaf_step.proofs.open_number.Lts as lts
-use Rattle.leaf_open.proofs.open_base_verdict.Reads as open-base-verdict-reads
-use Rattle.leaf_passed.proofs.room_fits.Reads as room-fits-reads
 
 open-base-verdict-requires : tie.Need-open-base-verdict-requires
 open-base-verdict-requires c κs = search needs

@@ -6,11 +6,6 @@ use Rattle.leaf_step.proofs.Openings.{a-refused-opening-changes-nothing
 use borrow.Author.Needs.{needs}
 use Rattle.leaf_step.proofs.open_step.Statement.{statement}
 use Rattle.leaf_step.proofs.open_step.Tie as tie
-use Rattle.leaf_step.proofs.open_step.Reads as reads
-use Rattle.leaf_step.proofs.open_step.Lts as lts
-use Rattle.leaf_move.proofs.settle_bytes.Reads as settle-bytes-reads
-use Rattle.leaf_open.proofs.fresh_work.Reads as fresh-work-reads
-use Rattle.leaf_step.proofs.open_number.Reads as open-number-reads
 
 open-number-requires : tie.Need-open-number-requires
 open-number-requires c κs = search needs

@@ -5,10 +5,6 @@ use Rattle.leaf_step.proofs.Closed.{a-page-has-4096-bytes}
 use borrow.Author.Needs.{needs}
 use Rattle.leaf_step.proofs.part_step.Statement.{statement}
 use Rattle.leaf_step.proofs.part_step.Tie as tie
-use Rattle.leaf_step.proofs.part_step.Reads as reads
-use Rattle.leaf_step.proofs.part_step.Lts as lts
-use Rattle.leaf_pending.proofs.part_at.Reads as part-at-reads
-use Rattle.leaf_step.proofs.twin_step.Reads as twin-step-reads
 
 twin-step-requires : tie.Need-twin-step-requires
 twin-step-requires c κs = search needs

@@ -4,9 +4,6 @@ use Rattle.leaf_step.proofs.Closed.{a-page-has-4096-bytes, a-closed-pas
 use borrow.Author.Needs.{needs}
 use Rattle.leaf_step.proofs.remove_number.Statement.{statement}
 use Rattle.leaf_step.proofs.remove_number.Tie as tie
-use Rattle.leaf_step.proofs.remove_number.Reads as reads
-use Rattle.leaf_step.proofs.remove_number.Lts as lts
-use Rattle.leaf_passed.proofs.closed_at.Reads as closed-at-reads
 
 closed-at-requires : tie.Need-closed-at-requires
 closed-at-requires c κs =

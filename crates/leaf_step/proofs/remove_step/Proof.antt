@@ -4,11 +4,6 @@ use Rattle.leaf_open.proofs.Again.{removal-is}
 use borrow.Author.Needs.{needs}
 use Rattle.leaf_step.proofs.remove_step.Statement.{statement}
 use Rattle.leaf_step.proofs.remove_step.Tie as tie
-use Rattle.leaf_step.proofs.remove_step.Reads as reads
-use Rattle.leaf_step.proofs.remove_step.Lts as lts
-use Rattle.leaf_open.proofs.remove_work.Reads as remove-work-reads
-use Rattle.leaf_open.proofs.reply_of.Reads as reply-of-reads
-use Rattle.leaf_step.proofs.remove_number.Reads as remove-number-reads
 
 remove-number-requires : tie.Need-remove-number-requires
 remove-number-requires c κs = search needs

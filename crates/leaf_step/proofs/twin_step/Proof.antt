@@ -5,13 +5,6 @@ use Rattle.leaf_step.proofs.Found.{a-pass-has-its-bounds, a-refused-rea
 use borrow.Author.Needs.{needs}
 use Rattle.leaf_step.proofs.twin_step.Statement.{statement}
 use Rattle.leaf_step.proofs.twin_step.Tie as tie
-use Rattle.leaf_step.proofs.twin_step.Reads as reads
-use Rattle.leaf_step.proofs.twin_step.Lts as lts
-use Rattle.leaf_check.proofs.regard.Reads as regard-reads
-use Rattle.leaf_passed.proofs.lent_at.Reads as lent-at-reads
-use Rattle.leaf_pending.proofs.refused.Reads as refused-reads
-use Rattle.leaf_pending.proofs.rest_record.Reads as rest-record-reads
-use Rattle.leaf_step.proofs.found_in_entry.Reads as found-in-entry-reads
 
 lent-at-requires : tie.Need-lent-at-requires
 lent-at-requires c κs =

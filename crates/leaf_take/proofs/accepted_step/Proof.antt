@@ -4,15 +4,6 @@ use Rattle.leaf_take.proofs.Values.{the-step-is-made}
 use borrow.Author.Needs.{needs}
 use Rattle.leaf_take.proofs.accepted_step.Statement.{statement}
 use Rattle.leaf_take.proofs.accepted_step.Tie as tie
-use Rattle.leaf_take.proofs.accepted_step.Reads as reads
-use Rattle.leaf_take.proofs.accepted_step.Lts as lts
-use Rattle.leaf_ingest.proofs.added.Reads as added-reads
-use Rattle.leaf_ingest.proofs.ingest_work.Reads as ingest-work-reads
-use Rattle.leaf_take.proofs.chunk_entry.Reads as chunk-entry-reads
-use Rattle.leaf_take.proofs.chunks.Reads as chunks-reads
-use Rattle.leaf_take.proofs.flag_of.Reads as flag-of-reads
-use Rattle.leaf_take.proofs.insert_entry.Reads as insert-entry-reads
-use Rattle.leaf_take.proofs.place_of.Reads as place-of-reads
 
 chunks-requires : tie.Need-chunks-requires
 chunks-requires c κs = search needs

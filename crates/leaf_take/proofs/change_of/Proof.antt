@@ -4,8 +4,6 @@ use Rattle.leaf_take.proofs.Values.{no-put-is-a-deletion, a-put-has-its
 use borrow.Author.Needs.{needs}
 use Rattle.leaf_take.proofs.change_of.Statement.{statement}
 use Rattle.leaf_take.proofs.change_of.Tie as tie
-use Rattle.leaf_take.proofs.change_of.Reads as reads
-use Rattle.leaf_take.proofs.change_of.Lts as lts
 
 returns : tie.Need-returns
 returns c = search (no-put-is-a-deletion, needs)

@@ -4,8 +4,6 @@ use Rattle.leaf_take.proofs.Values.{a-chunk-is-listed, no-chunk-is-list
 use borrow.Author.Needs.{needs}
 use Rattle.leaf_take.proofs.chunks.Statement.{statement}
 use Rattle.leaf_take.proofs.chunks.Tie as tie
-use Rattle.leaf_take.proofs.chunks.Reads as reads
-use Rattle.leaf_take.proofs.chunks.Lts as lts
 
 returns : tie.Need-returns
 returns c = search (a-chunk-is-listed, needs)

@@ -6,13 +6,6 @@ use Rattle.leaf_take.proofs.Taking.{a-refused-call-leaves-all, what-is-
 use borrow.Author.Needs.{needs}
 use Rattle.leaf_take.proofs.ingest_step.Statement.{statement}
 use Rattle.leaf_take.proofs.ingest_step.Tie as tie
-use Rattle.leaf_take.proofs.ingest_step.Reads as reads
-use Rattle.leaf_take.proofs.ingest_step.Lts as lts
-use Rattle.leaf_check.proofs.regard.Reads as regard-reads
-use Rattle.leaf_passed.proofs.lent_at.Reads as lent-at-reads
-use Rattle.leaf_take.proofs.change_of.Reads as change-of-reads
-use Rattle.leaf_take.proofs.refused_step.Reads as refused-step-reads
-use Rattle.leaf_take.proofs.take_step.Reads as take-step-reads
 
 lent-at-requires : tie.Need-lent-at-requires
 lent-at-requires c κs =

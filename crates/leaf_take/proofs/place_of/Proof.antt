@@ -4,8 +4,6 @@ use Rattle.leaf_take.proofs.Values.{what-is-not-listed-has-no-place, wh
 use borrow.Author.Needs.{needs}
 use Rattle.leaf_take.proofs.place_of.Statement.{statement}
 use Rattle.leaf_take.proofs.place_of.Tie as tie
-use Rattle.leaf_take.proofs.place_of.Reads as reads
-use Rattle.leaf_take.proofs.place_of.Lts as lts
 
 returns : tie.Need-returns
 returns c = search (what-is-not-listed-has-no-place, needs)

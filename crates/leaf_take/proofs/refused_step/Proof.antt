@@ -4,9 +4,6 @@ use Rattle.leaf_take.proofs.Values.{nothing-is-listed}
 use borrow.Author.Needs.{needs}
 use Rattle.leaf_take.proofs.refused_step.Statement.{statement}
 use Rattle.leaf_take.proofs.refused_step.Tie as tie
-use Rattle.leaf_take.proofs.refused_step.Reads as reads
-use Rattle.leaf_take.proofs.refused_step.Lts as lts
-use Rattle.leaf_take.proofs.blank_entry.Reads as blank-entry-reads
 
 blank-entry-requires : tie.Need-blank-entry-requires
 blank-entry-requires c κs = search needs

@@ -4,8 +4,6 @@ use Rattle.leaf_take.proofs.Values.{a-refusal-has-its-number, nothing-i
 use borrow.Author.Needs.{needs}
 use Rattle.leaf_take.proofs.report_out.Statement.{statement}
 use Rattle.leaf_take.proofs.report_out.Tie as tie
-use Rattle.leaf_take.proofs.report_out.Reads as reads
-use Rattle.leaf_take.proofs.report_out.Lts as lts
 
 enum-known-reply : tie.Need-enum-known-reply
 enum-known-reply c = search needs

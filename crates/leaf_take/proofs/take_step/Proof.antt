@@ -5,15 +5,6 @@ use Rattle.leaf_take.proofs.Taking.{a-refused-ingest-steps, the-value-h
 use borrow.Author.Needs.{needs}
 use Rattle.leaf_take.proofs.take_step.Statement.{statement}
 use Rattle.leaf_take.proofs.take_step.Tie as tie
-use Rattle.leaf_take.proofs.take_step.Reads as reads
-use Rattle.leaf_take.proofs.take_step.Lts as lts
-use Rattle.leaf_ingest.proofs.admit.Reads as admit-reads
-use Rattle.leaf_ingest.proofs.report_of.Reads as report-of-reads
-use Rattle.leaf_ingest.proofs.value_of.Reads as value-of-reads
-use Rattle.leaf_node.proofs.copy_in.Reads as copy-in-reads
-use Rattle.leaf_take.proofs.accepted_step.Reads as accepted-step-reads
-use Rattle.leaf_take.proofs.refused_step.Reads as refused-step-reads
-use Rattle.leaf_take.proofs.report_out.Reads as report-out-reads
 
 admit-requires : tie.Need-admit-requires
 admit-requires c κs =

@@ -4,12 +4,6 @@ use Rattle.leaf_within.proofs.Within.{gathers, a-long-list-is-refused, 
 use borrow.Author.Needs.{needs}
 use Rattle.leaf_within.proofs.digest_within.Statement.{statement}
 use Rattle.leaf_within.proofs.digest_within.Tie as tie
-use Rattle.leaf_within.proofs.digest_within.Reads as reads
-use Rattle.leaf_within.proofs.digest_within.Lts as lts
-use Rattle.leaf_digest.proofs.digest.Reads as digest-reads
-use Rattle.leaf_within.proofs.list_number.Reads as list-number-reads
-use Rattle.leaf_within.proofs.refused_digest.Reads as refused-digest-reads
-use Rattle.leaf_within.proofs.step_of.Reads as step-of-reads
 
 list-number-requires : tie.Need-list-number-requires
 list-number-requires c κs = search needs

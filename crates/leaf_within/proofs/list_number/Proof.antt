@@ -4,9 +4,6 @@ use Rattle.leaf_within.proofs.Counts.{a-bad-page-comes-first, then-the-
 use borrow.Author.Needs.{needs}
 use Rattle.leaf_within.proofs.list_number.Statement.{statement}
 use Rattle.leaf_within.proofs.list_number.Tie as tie
-use Rattle.leaf_within.proofs.list_number.Reads as reads
-use Rattle.leaf_within.proofs.list_number.Lts as lts
-use Rattle.leaf_check.proofs.page_verdict.Reads as page-verdict-reads
 
 page-verdict-requires : tie.Need-page-verdict-requires
 page-verdict-requires c κs = search needs

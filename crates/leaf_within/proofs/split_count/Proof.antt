@@ -4,8 +4,6 @@ use Rattle.leaf_within.proofs.Counts.{a-short-list-is-split-whole, a-lo
 use borrow.Author.Needs.{needs}
 use Rattle.leaf_within.proofs.split_count.Statement.{statement}
 use Rattle.leaf_within.proofs.split_count.Tie as tie
-use Rattle.leaf_within.proofs.split_count.Reads as reads
-use Rattle.leaf_within.proofs.split_count.Lts as lts
 
 returns : tie.Need-returns
 returns c = search (a-short-list-is-split-whole, needs)

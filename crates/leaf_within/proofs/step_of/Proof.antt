@@ -4,9 +4,6 @@ use Rattle.leaf_within.proofs.Counts.{a-refusal-gives-back-nothing, a-f
 use borrow.Author.Needs.{needs}
 use Rattle.leaf_within.proofs.step_of.Statement.{statement}
 use Rattle.leaf_within.proofs.step_of.Tie as tie
-use Rattle.leaf_within.proofs.step_of.Reads as reads
-use Rattle.leaf_within.proofs.step_of.Lts as lts
-use Rattle.leaf_within.proofs.refused_digest.Reads as refused-digest-reads
 
 enum-known-reply : tie.Need-enum-known-reply
 enum-known-reply c = search needs
