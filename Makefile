@@ -8,7 +8,7 @@ SEED ?= 1
 # a step: its name and its command; says how long it took
 step = @start=$$(date +%s) && echo "== $(1)" && $(2) && echo "== $(1): $$(($$(date +%s) - start)) s"
 
-.PHONY: run test bench layout claims library compare
+.PHONY: run test bench layout claims library header symbols examples compare
 
 run:
 	@mkdir -p build
@@ -17,7 +17,7 @@ run:
 	@target/bin/trials
 
 # `rt ci` comes last, so that its 'N passed, 0 failed' is the last line; it removes target/
-test: layout claims library compare
+test: layout claims library header symbols examples compare
 	@echo "== rt ci: every crate from nothing, every must-fail edit, every program"
 	@rt ci
 
@@ -29,6 +29,15 @@ claims:
 
 library:
 	$(call step,static library,tools/quietly build/library.log rt staticlib leaf_updater)
+
+header:
+	$(call step,header and Rust declarations beside the source,tools/check-layout)
+
+symbols: library
+	$(call step,symbols of the library,tools/check-symbols)
+
+examples: library
+	$(call step,examples in C and Rust,tools/examples)
 
 compare: library
 	$(call step,comparing with the Rust,tools/with-nomt tools/compare $(SECONDS_OF_RANDOM) $(SEED))
