@@ -40,35 +40,43 @@ fn report(call: &str, inputs: &str, calls: usize, mut rust: impl FnMut(), mut ou
     print_both(call, inputs, median(rust_times), median(ours_times));
 }
 
-/// Times both sides on things that each call uses up: `calls` of them are made before the clock starts. `check` is our call where it is
-/// refused after all that document 01 has checked at every call.
+/// A call that uses up what it is made on: things are made before the clock starts, `count` of them, and each is used once.
+struct UsedUp<Make, Run> {
+    count: usize,
+    make: Make,
+    run: Run,
+}
+
+/// Times both sides on things that each call uses up. `check` is our call where it is refused after all that document 01 has checked at
+/// every call.
 fn report_used_up<R, O>(
     call: &str,
     inputs: &str,
-    calls: usize,
-    rust: (impl Fn() -> R, impl Fn(&mut R)),
-    ours: (impl Fn() -> O, impl Fn(&mut O)),
-    check: impl Fn(&mut O),
+    rust: UsedUp<impl Fn() -> R, impl Fn(&mut R)>,
+    ours: UsedUp<impl Fn() -> O, impl Fn(&mut O)>,
+    check: Option<impl Fn(&mut O)>,
 ) {
-    let (make, run) = ours;
     let mut times = [Vec::new(), Vec::new(), Vec::new()];
     for round in 0..=ROUNDS {
+        let check = check.as_ref();
         let round_times = [
-            time_used_up(calls, &rust.0, &rust.1),
-            time_used_up(calls, &make, &run),
-            time_used_up(calls, &make, &check),
+            time_used_up(rust.count, &rust.make, &rust.run),
+            time_used_up(ours.count, &ours.make, &ours.run),
+            check.map_or(0.0, |check| time_used_up(ours.count, &ours.make, check)),
         ];
         if round > 0 {
             (times.iter_mut().zip(round_times)).for_each(|(all, time)| all.push(time));
         }
     }
-    let [rust, ours, check] = times.map(median);
+    let [rust, ours, checked] = times.map(median);
     print_both(call, inputs, rust, ours);
-    let (share, beside) = (100.0 * check / ours, (ours - check) / rust);
-    println!(
-        "{:<12} {:<38} the check {check:>7.1} ns, {share:.0} %   beside it, ours/Rust {beside:.2}",
-        "", ""
-    );
+    if check.is_some() {
+        let (share, beside) = (100.0 * checked / ours, (ours - checked) / rust);
+        println!(
+            "{:<14} {:<44} the check {checked:>8.1} ns, {share:.0} %   beside it, ours/Rust {beside:.2}",
+            "", ""
+        );
+    }
 }
 
 fn time_used_up<T>(calls: usize, make: &impl Fn() -> T, run: &impl Fn(&mut T)) -> f64 {
@@ -81,7 +89,7 @@ fn time_used_up<T>(calls: usize, make: &impl Fn() -> T, run: &impl Fn(&mut T)) -
 fn print_both(call: &str, inputs: &str, rust: f64, ours: f64) {
     let ratio = ours / rust;
     println!(
-        "{call:<12} {inputs:<38} the Rust {rust:>7.1} ns   ours {ours:>7.1} ns   ours/Rust {ratio:.2}"
+        "{call:<14} {inputs:<44} the Rust {rust:>8.1} ns   ours {ours:>8.1} ns   ours/Rust {ratio:.2}"
     );
 }
 
@@ -89,7 +97,7 @@ fn print_both(call: &str, inputs: &str, rust: f64, ours: f64) {
 fn alone(call: &str, inputs: &str, calls: usize, mut ours: impl FnMut()) {
     let times = (0..=ROUNDS).map(|_| time(calls, &mut ours));
     let ours = median(times.skip(1).collect());
-    println!("{call:<12} {inputs:<38} ours {ours:>7.1} ns");
+    println!("{call:<14} {inputs:<44} ours {ours:>8.1} ns");
 }
 
 /// Nanoseconds for a call.

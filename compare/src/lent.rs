@@ -4,38 +4,57 @@ use std::hint::black_box;
 
 /// Bytes in each red zone. Odd, so that bytes that are lent start at an odd address: no alignment is promised for them.
 const ZONE: usize = 61;
+/// What the bytes between the fields of a lent struct hold.
+const BETWEEN: u8 = 0xa7;
 
 /// What the library did to bytes that it must leave alone, in words.
 #[derive(Debug, PartialEq)]
 pub struct Damage(pub String);
 
+/// A plain struct as C lays it out.
+pub trait Laid: Copy {
+    /// Writes the fields alone: the bytes between them keep what they hold.
+    ///
+    /// # Safety
+    ///
+    /// `at` is aligned, and there is room for a `Self`.
+    unsafe fn put(&self, at: *mut Self);
+}
+
 pub struct Lent {
     // red zone, the bytes lent, red zone
     all: Vec<u8>,
-    // bytes before the first red zone, for the alignment of numbers
+    // bytes before the first red zone, for the alignment of structs
     skip: usize,
 }
 
 impl Lent {
     pub fn new(bytes: &[u8]) -> Self {
-        Lent::after(Vec::with_capacity(ZONE + bytes.len() + ZONE), bytes)
+        let mut lent = Lent::room(bytes.len(), 1);
+        let first = lent.skip + ZONE;
+        lent.all[first..first + bytes.len()].copy_from_slice(bytes);
+        lent
     }
 
-    /// Numbers, which must be aligned.
-    pub fn numbers(numbers: &[usize]) -> Self {
-        let width = size_of::<usize>();
-        let bytes: Vec<u8> = numbers.iter().flat_map(|n| n.to_ne_bytes()).collect();
-        let mut all: Vec<u8> = Vec::with_capacity(width + ZONE + bytes.len() + ZONE);
-        let first = all.as_ptr().wrapping_add(ZONE);
-        all.resize(first.align_offset(width), 0);
-        Lent::after(all, &bytes)
+    /// Structs, which must be aligned.
+    pub fn structs<T: Laid>(structs: &[T]) -> Self {
+        let mut lent = Lent::room(size_of_val(structs), align_of::<T>());
+        let first: *mut T = lent.ptr_mut().cast();
+        for (i, one) in structs.iter().enumerate() {
+            // SAFETY: there is room for all of them, and the first one is aligned.
+            unsafe { one.put(first.add(i)) };
+        }
+        lent
     }
 
-    fn after(mut all: Vec<u8>, bytes: &[u8]) -> Self {
-        let skip = all.len();
-        all.extend((0..ZONE).map(zone_byte));
-        all.extend_from_slice(bytes);
-        all.extend((0..ZONE).map(zone_byte));
+    fn room(bytes: usize, align: usize) -> Self {
+        let mut all = vec![BETWEEN; align + ZONE + bytes + ZONE];
+        let skip = all.as_ptr().wrapping_add(ZONE).align_offset(align);
+        all.truncate(skip + ZONE + bytes + ZONE);
+        for place in 0..ZONE {
+            all[skip + place] = zone_byte(place);
+            all[skip + ZONE + bytes + place] = zone_byte(place);
+        }
         Lent { all, skip }
     }
 
@@ -63,13 +82,13 @@ impl Lent {
         }
     }
 
-    /// The numbers lent, after the call.
-    pub fn numbers_after_call(&self, name: &str) -> Result<Vec<usize>, Damage> {
-        let bytes = self.after_call(name)?.chunks_exact(size_of::<usize>());
-        let number = |bytes: &[u8]| {
-            usize::from_ne_bytes(bytes.try_into().expect("as many bytes as a number has"))
-        };
-        Ok(bytes.map(number).collect())
+    /// The structs lent, after the call.
+    pub fn structs_after_call<T: Laid>(&self, name: &str) -> Result<Vec<T>, Damage> {
+        let bytes = self.after_call(name)?;
+        let first: *const T = bytes.as_ptr().cast();
+        // SAFETY: so many were put there, and a struct of numbers may hold any bytes.
+        let read = |i| unsafe { first.add(i).read() };
+        Ok((0..bytes.len() / size_of::<T>()).map(read).collect())
     }
 
     /// Damage unless the bytes lent are still `bytes` and the red zones stand.
@@ -80,6 +99,12 @@ impl Lent {
         }
         let now = crate::hex::write(now);
         Err(Damage(format!("changed `{name}` to {now}")))
+    }
+
+    /// The bytes lent, to be held against what a call leaves of them; those between fields are among them.
+    pub fn bytes(&self) -> Vec<u8> {
+        let bytes = &self.all[self.skip + ZONE..self.all.len() - ZONE];
+        bytes.to_vec()
     }
 }
 
@@ -95,6 +120,7 @@ fn touched(zone: &[u8]) -> Option<usize> {
 #[cfg(test)]
 mod tests {
     use super::*;
+    use crate::leaf_updater::Entry;
 
     #[test]
     fn a_write_just_outside_is_damage() {
@@ -107,13 +133,35 @@ mod tests {
     }
 
     #[test]
-    fn numbers_are_aligned_and_come_back() {
+    fn bytes_start_at_an_odd_address() {
+        assert_eq!(Lent::new(&[7; 32]).ptr() as usize % 2, 1);
+    }
+
+    #[test]
+    fn structs_are_aligned_and_come_back() {
         for length in 0..9 {
-            let numbers: Vec<usize> = (0..length).map(|n| n * 257).collect();
-            let lent = Lent::numbers(&numbers);
-            assert_eq!(lent.ptr() as usize % size_of::<usize>(), 0);
-            assert_eq!(lent.numbers_after_call("x"), Ok(numbers));
+            let entry = |i: usize| Entry {
+                kind: i as u8,
+                from: i * 257,
+                key: [i as u8; 32],
+                ..Entry::default()
+            };
+            let entries: Vec<Entry> = (0..length).map(entry).collect();
+            let lent = Lent::structs(&entries);
+            assert_eq!(lent.ptr() as usize % align_of::<Entry>(), 0);
+            assert_eq!(lent.structs_after_call("x"), Ok(entries));
         }
+    }
+
+    /// A byte between fields belongs to what is only read.
+    #[test]
+    fn a_changed_byte_between_fields_is_damage() {
+        let mut lent = Lent::structs(&[Entry::default()]);
+        let before = lent.bytes();
+        let between = std::mem::offset_of!(Entry, from) - 1;
+        assert_eq!(before[between], BETWEEN);
+        unsafe { *lent.ptr_mut().add(between) ^= 1 };
+        assert!(lent.kept("x", &before).is_err());
     }
 
     #[test]

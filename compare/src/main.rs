@@ -1,14 +1,17 @@
 //! Runs nomt's unchanged leaf updater and the proved static library in one process and compares them.
 //!
 //! `oracle` is the Rust, `ours` the library, `plain` document 01 written out as a second opinion. `random` makes up
-//! calls, `vectors` replays recorded ones, `bench` times both sides, `record` writes the Rust's answers to a file.
+//! calls, `vectors` replays recorded ones, `bench` times both sides, `record` writes the Rust's answers to a file,
+//! `stack` measures the library's stack.
 //!
-//! Where a further call goes: its declaration and guarded wrapper in `ours`, its reference in `oracle`, its
+//! Where a further call goes: its declaration in include/, its guarded wrapper in `ours`, its reference in `oracle`, its
 //! random inputs in a module like `keys` (listed in `random::SUBJECTS`), its line in `side` and in both sides.
 
 mod bench;
 mod hex;
 mod keys;
+#[path = "../../include/leaf_updater.rs"]
+mod leaf_updater;
 mod lent;
 mod oracle;
 mod ours;
@@ -19,6 +22,7 @@ mod record;
 mod rng;
 mod sequences;
 mod side;
+mod stack;
 mod vectors;
 
 // The included Rust names these by `crate::beatree` and `crate::io`.
@@ -35,6 +39,7 @@ usage: compare random SECONDS SEED   made-up calls to both sides, for so many se
        compare exhaustive CALLS      every sequence of so many calls over a few keys and sizes
        compare vectors DIR           the recorded call sequences DIR/*.txt
        compare plain DIR             the same on the plain functions in place of the library
+       compare stack SECONDS SEED    stack that each call uses, beside what the header says
        compare bench                 times of both sides (build with --profile timing)
        compare record DIR            write the Rust's answers to DIR";
 
@@ -58,6 +63,10 @@ fn main() -> ExitCode {
         },
         ["vectors", dir] => vectors::run(Path::new(dir), Library::default),
         ["plain", dir] => vectors::run(Path::new(dir), Plain::default),
+        ["stack", seconds, seed] => match (seconds.parse(), seed.parse()) {
+            (Ok(seconds), Ok(seed)) => stack::run(seconds, seed),
+            _ => usage(),
+        },
         ["bench"] => bench::run(),
         ["record", dir] => record::run(Path::new(dir)),
         _ => usage(),

@@ -1,7 +1,8 @@
-//! The proved static library: its declarations, bare calls for timings, and guarded calls for comparing.
-//! Nothing checks these declarations against the library's source; the comparisons would show a wrong one.
+//! The proved static library: bare calls for timings, and guarded calls for comparing. The declarations are those of include/, which
+//! tools/check-layout holds against the library's source.
 
 pub mod keys;
 pub mod pages;
 pub mod side;
+pub mod stack;
 pub mod work;

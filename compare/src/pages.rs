@@ -7,7 +7,7 @@ use crate::hex;
 use crate::lent::Damage;
 use crate::oracle::beatree::leaf::node::{LeafBuilder, LeafNode};
 use crate::oracle::io::{PagePool, PAGE_SIZE};
-use crate::ours::pages::{LentPage, ValueReply, NO_SUCH_INDEX, SHORT_AREA};
+use crate::ours::pages::{LeafValue, LentPage, NO_SUCH_INDEX, SHORT_AREA};
 use crate::random::{Mismatch, Tally};
 use crate::rng::Rng;
 
@@ -128,8 +128,8 @@ fn same<T: PartialEq + std::fmt::Debug>(
     Err(Mismatch { call, lines })
 }
 
-const fn refused(refusal: u8) -> ValueReply {
-    ValueReply {
+const fn refused(refusal: u8) -> LeafValue {
+    LeafValue {
         refusal,
         absent: 0,
         flag: 0,
@@ -163,8 +163,8 @@ fn check_refused(
 }
 
 /// What a read gives of the Rust's value, a part of its page.
-fn cell(node: &LeafNode, value: (&[u8], bool)) -> ValueReply {
-    ValueReply {
+fn cell(node: &LeafNode, value: (&[u8], bool)) -> LeafValue {
+    LeafValue {
         refusal: 0,
         absent: 0,
         flag: value.1.into(),
@@ -210,7 +210,7 @@ fn check_gets(
     for key in keys {
         let due = match node.get(&key) {
             Some(value) => cell(node, value),
-            None => ValueReply {
+            None => LeafValue {
                 absent: 1,
                 ..refused(0)
             },

@@ -142,7 +142,7 @@ pub fn counted(which: &str, calls: impl FnOnce(&mut Tally) -> Result<(), Mismatc
 }
 
 /// Whole rounds, at least one, so that even the shortest run meets every case.
-fn rounds(limit: Duration, seed: u64, tally: &mut Tally) -> Result<(), Mismatch> {
+pub fn rounds(limit: Duration, seed: u64, tally: &mut Tally) -> Result<(), Mismatch> {
     let start = Instant::now();
     let mut rng = Rng::new(seed);
     keys::equal_keys_make_the_rust_panic(&mut rng, tally)?;

@@ -36,8 +36,8 @@ pub trait Calls {
     fn remove_cutoff(state: &mut State) -> Ran<()>;
     /// The twin call from an index on, at most so many times or up to a refusal; the part call with the same index is held against each.
     fn twins(state: &State, page: &[u8], from: usize, most: usize) -> Result<Twins, Damage>;
-    fn is_in_scope(work: &Work, key: &Key) -> bool;
-    fn separator(work: &Work) -> Key;
+    fn is_in_scope(work: &Work, key: &Key) -> Result<bool, Damage>;
+    fn separator(work: &Work) -> Result<Key, Damage>;
     /// A call on a page or on keys alone.
     fn on_page(call: &Call) -> Answered;
 }
@@ -138,8 +138,8 @@ impl<C: Calls> Sequence<C> {
                 self.changing(instead, |state, _| accepted(C::remove_cutoff(state)))
             }
             Call::Twin { index, instead } => twin::<C>(&self.lent(instead), *index),
-            Call::Scope { key } => Ok(Answer::Truth(C::is_in_scope(&self.state.work, key))),
-            Call::Separator => Ok(Answer::Key(C::separator(&self.state.work))),
+            Call::Scope { key } => C::is_in_scope(&self.state.work, key).map(Answer::Truth),
+            Call::Separator => C::separator(&self.state.work).map(Answer::Key),
             Call::Dump => self.dump(),
             _ => C::on_page(call),
         }

@@ -1,13 +1,15 @@
-//! Calls on a work. Ours check work, list, store and page at every call, as document 01 demands; the Rust never does. The check
-//! has no other side: its lines say how it grows with what is lent.
+//! Calls on a work. Ours check work, list, store and page at every call, as document 01 demands; the Rust never does. A twin call has no
+//! other side and does little beside the check: its lines say how the check grows with what is lent.
 
-use super::{alone, print_both, report, report_used_up, time, SEED};
+use super::{alone, print_both, report, report_used_up, time, UsedUp, SEED};
 use crate::oracle::updater::Updater;
 use crate::oracle::Key;
-use crate::ours::work::bare::{self, Flat};
+use crate::ours::work::bare;
 use crate::pages::{made, LONGEST_VALUE};
 use crate::plain::calls::{ingest, open};
-use crate::plain::work::State;
+use crate::plain::digest::digest;
+use crate::plain::page::{build, Record};
+use crate::plain::work::{State, WAITING};
 use crate::rng::Rng;
 use crate::side::unopened;
 use crate::vectors::calls::{Base, Call, Change, Instead};
@@ -15,8 +17,10 @@ use std::cell::RefCell;
 use std::hint::black_box;
 
 const CALLS: usize = 256;
-/// Works that are made before a digest of each is timed: as many as stay in the cache.
+/// Works that are made before a call on each is timed: of ours few, so that most stay in the cache, of the Rust's, whose calls may be
+/// short, more.
 const WORKS: usize = 16;
+const RUST_WORKS: usize = 256;
 const RECORDS: usize = 100;
 const VALUE: usize = 4;
 const CHANGES: usize = 200;
@@ -24,6 +28,11 @@ const CHANGES: usize = 200;
 const STEP_ROUNDS: usize = 1001;
 /// Records of a small base, which asks for a merge.
 const SMALL: usize = 30;
+/// Lists are the shortest, one that takes all the changes, and the longest; stores the shortest.
+const LISTS: [usize; 3] = [121, 512, 4096];
+const STORE: usize = 4096;
+const CUTOFF: Key = [0x80; 32];
+const NEXT_CUTOFF: Key = [0xff; 32];
 
 /// Whether the sides agree; else nothing is timed.
 pub fn run() -> bool {
@@ -34,24 +43,28 @@ pub fn run() -> bool {
     };
     let mut keys: Vec<Key> = (0..CHANGES).map(|_| rng.key()).collect();
     keys.sort();
-    for (changes, list, store) in [
-        (0, 121, 4096),
-        (CHANGES, 512, 4096),
-        (CHANGES, 4096, 4096),
-        (CHANGES, 4096, 65536),
-    ] {
-        let Some(state) = changed(&base, &keys[..changes], list, store) else {
-            return false;
-        };
-        check(Flat::new(&state), &base, changes);
-    }
-    let small = Base {
-        page: made::page_of(&mut rng, SMALL, VALUE),
-        separator: [0; 32],
-    };
-    bench_ingest(&base, &keys)
+    let (small, next) = (small_base(0), small_base(CUTOFF[0]));
+    bench_opening(&base)
+        && bench_ingest(&base, &keys)
         && bench_step(&small, &keys[..SMALL])
         && bench_digests(&base, &small, &keys)
+        && bench_next_base(&small, &next)
+        && bench_cutoff_removal(&small)
+        && bench_twin(&base, &keys)
+}
+
+/// A base of few records, whose separator is so many times this byte.
+fn small_base(byte: u8) -> Base {
+    let record = |i| Record {
+        key: [byte + i; 32],
+        value: vec![i; VALUE],
+        flag: false,
+    };
+    let records: Vec<Record> = (0..SMALL as u8).map(record).collect();
+    Base {
+        page: build(&records),
+        separator: [byte; 32],
+    }
 }
 
 /// A work with so many new values.
@@ -76,52 +89,68 @@ fn changed_under(
     Some(state)
 }
 
-fn check(mut flat: Flat, base: &Base, changes: usize) {
-    let (list, store) = (flat.rows.len(), flat.store.len());
-    let inputs = format!("{changes} changes, list {list}, store {store}");
-    alone("1 to 8", &inputs, CALLS, || {
-        for _ in 0..CALLS {
-            black_box(bare::twin(black_box(&mut flat), &base.page, 0));
-        }
-    });
+/// A work that waits for a merge.
+fn waiting(base: &Base, list: usize) -> Option<State> {
+    let mut state = changed_under(base, Some(CUTOFF), &[], list, STORE)?;
+    let (mut area, mut tickets) = (vec![0; 4096], vec![0; 65]);
+    digest(&mut state, &base.page, &mut area, &mut tickets).ok()?;
+    (state.work.turn == WAITING).then_some(state)
+}
+
+fn bench_opening(base: &Base) -> bool {
+    LISTS.iter().all(|&list| {
+        let mut state = unopened(list, STORE);
+        let opened = Updater::new(Some(base), None);
+        let rust = || {
+            for _ in 0..CALLS {
+                black_box(opened.open_bare(base.separator, Some(NEXT_CUTOFF)));
+            }
+        };
+        let mut accepted = true;
+        let ours = || {
+            for _ in 0..CALLS {
+                accepted &= bare::open(black_box(&mut state), base, &NEXT_CUTOFF);
+            }
+        };
+        let inputs = format!("a base of 100 records, list {list}");
+        report("opening", &inputs, CALLS, rust, ours);
+        accepted
+    })
 }
 
 /// All changes, one after the other, from an opening on.
 fn bench_ingest(base: &Base, keys: &[Key]) -> bool {
-    let Some(opened) = changed(base, &[], 512, 4096) else {
-        return false;
-    };
-    let value = [7; VALUE];
-    let calls: Vec<Call> = keys.iter().map(|key| put_call(*key, &value)).collect();
-    let rust = || {
-        let mut rust = Updater::of(&opened, &base.page);
-        for call in &calls {
-            black_box(rust.answer(call));
-        }
-    };
-    let mut accepted = true;
-    let ours = || {
-        let mut flat = Flat::new(&opened);
-        for key in keys {
-            accepted &= bare::put(&mut flat, &base.page, key, &value);
-        }
-        black_box(&flat.store);
-    };
-    report(
-        "ingest",
-        "200 changes over 100 records",
-        CHANGES,
-        rust,
-        ours,
-    );
-    accepted
+    LISTS[1..].iter().all(|&list| {
+        let Some(opened) = changed(base, &[], list, STORE) else {
+            return false;
+        };
+        let value = [7; VALUE];
+        let calls: Vec<Call> = keys.iter().map(|key| put_call(*key, &value)).collect();
+        let rust = || {
+            let mut rust = Updater::of(&opened, &base.page);
+            for call in &calls {
+                black_box(rust.answer(call));
+            }
+        };
+        let mut accepted = true;
+        let ours = || {
+            let mut state = opened.clone();
+            for key in keys {
+                accepted &= bare::put(&mut state, &base.page, key, &value);
+            }
+            black_box(&state.store);
+        };
+        let inputs = format!("200 changes over 100 records, list {list}");
+        report("ingest", &inputs, CHANGES, rust, ours);
+        accepted
+    })
 }
 
 /// An ingest's step: what it takes beyond the check. An ingest that is refused for its value's length has checked all and done nothing,
 /// so the step is what an accepted one takes less a refused one. Little is lent, so that the check is short, and least times are
 /// taken: of a long check the difference would be noise.
 fn bench_step(base: &Base, keys: &[Key]) -> bool {
-    let Some(opened) = changed(base, &[], 121, 4096) else {
+    let Some(opened) = changed(base, &[], 121, STORE) else {
         return false;
     };
     let value = [7; VALUE];
@@ -136,19 +165,19 @@ fn bench_step(base: &Base, keys: &[Key]) -> bool {
             });
         }));
         once = once.min(time(keys.len(), &mut || {
-            let mut flat = Flat::new(&opened);
+            let mut state = opened.clone();
             for key in keys {
-                bare::put(&mut flat, &base.page, key, &value);
+                bare::put(&mut state, &base.page, key, &value);
             }
-            black_box(&flat.store);
+            black_box(&state.store);
         }));
         with_refused = with_refused.min(time(keys.len(), &mut || {
-            let mut flat = Flat::new(&opened);
+            let mut state = opened.clone();
             for key in keys {
-                bare::put(&mut flat, &base.page, key, &long);
-                bare::put(&mut flat, &base.page, key, &value);
+                bare::put(&mut state, &base.page, key, &long);
+                bare::put(&mut state, &base.page, key, &value);
             }
-            black_box(&flat.store);
+            black_box(&state.store);
         }));
     }
     let step = once - (with_refused - once);
@@ -158,27 +187,30 @@ fn bench_step(base: &Base, keys: &[Key]) -> bool {
 
 /// A digest of an untouched base, of one with 200 changes, and of a small one, which answers a merge request.
 fn bench_digests(base: &Base, small: &Base, keys: &[Key]) -> bool {
+    let untouched = ("an untouched base", base, None, 0);
+    let changes = ("200 changes over 100 records", base, None, CHANGES);
+    let merge = ("30 records, a merge request", small, Some(CUTOFF), 0);
     let cases = [
-        ("an untouched base", base, None, 0, 121),
-        ("200 changes over 100 records", base, None, CHANGES, 512),
-        (
-            "30 records, a merge request",
-            small,
-            Some([0xff; 32]),
-            0,
-            121,
-        ),
+        (untouched, 121),
+        (untouched, 4096),
+        (changes, 512),
+        (changes, 4096),
+        (merge, 121),
+        (merge, 4096),
     ];
-    cases.iter().all(|&(inputs, base, cutoff, changes, list)| {
-        let state = changed_under(base, cutoff, &keys[..changes], list, 4096);
-        state.is_some_and(|state| bench_digest(inputs, base, &state))
-    })
+    cases
+        .iter()
+        .all(|&((inputs, base, cutoff, changes), list)| {
+            let inputs = format!("{inputs}, list {list}");
+            let state = changed_under(base, cutoff, &keys[..changes], list, STORE);
+            state.is_some_and(|state| bench_digest(&inputs, base, &state))
+        })
 }
 
 fn bench_digest(inputs: &str, base: &Base, state: &State) -> bool {
     let mut area = [vec![0; 8 * 4096], vec![0; 8 * 65]];
     let [pages, tickets] = &mut area;
-    let ours = bare::digest(&mut Flat::new(state), &base.page, pages, tickets);
+    let ours = bare::digest(&mut state.clone(), &base.page, pages, tickets);
     let rust = Updater::of(state, &base.page).digest_bare();
     if ours != Some(rust) {
         return false;
@@ -187,26 +219,109 @@ fn bench_digest(inputs: &str, base: &Base, state: &State) -> bool {
     report_used_up(
         "digest",
         inputs,
-        WORKS,
-        (
-            || Updater::of(state, &base.page),
-            |rust: &mut Updater| {
+        UsedUp {
+            count: WORKS,
+            make: || Updater::of(state, &base.page),
+            run: |rust: &mut Updater| {
                 black_box(rust.digest_bare());
             },
-        ),
-        (
-            || Flat::new(state),
-            |flat: &mut Flat| {
-                let [pages, tickets] = &mut *lent.borrow_mut();
-                black_box(bare::digest(flat, &base.page, pages, tickets));
-            },
-        ),
-        // without an area it is refused when all is checked
-        |flat: &mut Flat| {
-            black_box(bare::digest(flat, &base.page, &mut [], &mut []));
         },
+        UsedUp {
+            count: WORKS,
+            make: || state.clone(),
+            run: |state: &mut State| {
+                let [pages, tickets] = &mut *lent.borrow_mut();
+                black_box(bare::digest(state, &base.page, pages, tickets));
+            },
+        },
+        // without an area it is refused when all is checked
+        Some(|state: &mut State| {
+            black_box(bare::digest(state, &base.page, &mut [], &mut []));
+        }),
     );
     true
+}
+
+fn bench_next_base(small: &Base, next: &Base) -> bool {
+    let shared = Updater::new(Some(next), None).node();
+    LISTS.iter().all(|&list| {
+        let (Some(state), Some(node)) = (waiting(small, list), &shared) else {
+            return false;
+        };
+        if !bare::next_base(&mut state.clone(), next, &NEXT_CUTOFF) {
+            return false;
+        }
+        report_used_up(
+            "next base",
+            &format!("30 records, 30 pending, list {list}"),
+            UsedUp {
+                count: RUST_WORKS,
+                make: || Updater::of(&state, &[]),
+                run: |rust: &mut Updater| {
+                    rust.reset_base_bare(node, next.separator, Some(NEXT_CUTOFF));
+                },
+            },
+            UsedUp {
+                count: WORKS,
+                make: || state.clone(),
+                run: |state: &mut State| {
+                    black_box(bare::next_base(state, next, &NEXT_CUTOFF));
+                },
+            },
+            None::<fn(&mut State)>,
+        );
+        true
+    })
+}
+
+fn bench_cutoff_removal(small: &Base) -> bool {
+    LISTS.iter().all(|&list| {
+        let Some(state) = waiting(small, list) else {
+            return false;
+        };
+        if !bare::remove_cutoff(&mut state.clone()) {
+            return false;
+        }
+        report_used_up(
+            "cutoff removal",
+            &format!("30 pending, list {list}"),
+            UsedUp {
+                count: RUST_WORKS,
+                make: || Updater::of(&state, &[]),
+                run: Updater::remove_cutoff_bare,
+            },
+            UsedUp {
+                count: WORKS,
+                make: || state.clone(),
+                run: |state: &mut State| {
+                    black_box(bare::remove_cutoff(state));
+                },
+            },
+            None::<fn(&mut State)>,
+        );
+        true
+    })
+}
+
+fn bench_twin(base: &Base, keys: &[Key]) -> bool {
+    let cases = [
+        (0, 121, 4096),
+        (CHANGES, 512, 4096),
+        (CHANGES, 4096, 4096),
+        (CHANGES, 4096, 65536),
+    ];
+    cases.iter().all(|&(changes, list, store)| {
+        let Some(mut state) = changed(base, &keys[..changes], list, store) else {
+            return false;
+        };
+        let inputs = format!("{changes} changes, list {list}, store {store}");
+        alone("twin", &inputs, CALLS, || {
+            for _ in 0..CALLS {
+                black_box(bare::twin(black_box(&mut state), &base.page, 0));
+            }
+        });
+        bare::twin(&mut state, &base.page, 0).refusal == 0
+    })
 }
 
 fn put_call(key: Key, value: &[u8]) -> Call {

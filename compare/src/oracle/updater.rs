@@ -110,7 +110,31 @@ impl Updater {
         Answer::Report(report)
     }
 
-    /// A digest whose leaves are only counted, for timing.
+    // For timing: the page isn't copied, and leaves are only counted.
+
+    /// The base's node, to be shared.
+    pub fn node(&self) -> Option<Arc<LeafNode>> {
+        self.node.clone()
+    }
+
+    #[inline(never)]
+    pub fn open_bare(&self, separator: Key, cutoff: Option<Key>) -> LeafUpdater {
+        let node = self.node.clone();
+        let leaf = node.map(|node| BaseLeaf::new(node, separator));
+        LeafUpdater::new(self.pool.clone(), leaf, cutoff)
+    }
+
+    #[inline(never)]
+    pub fn reset_base_bare(&mut self, node: &Arc<LeafNode>, separator: Key, cutoff: Option<Key>) {
+        let leaf = BaseLeaf::new(node.clone(), separator);
+        self.inner.reset_base(Some(leaf), cutoff);
+    }
+
+    #[inline(never)]
+    pub fn remove_cutoff_bare(&mut self) {
+        self.inner.remove_cutoff();
+    }
+
     pub fn digest_bare(&mut self) -> usize {
         let mut leaves = 0;
         let result = self.inner.digest(&mut Each(|separator, node, cutoff| {

@@ -1,16 +1,12 @@
 //! The key calls.
 
+use super::stack::metered;
+use crate::leaf_updater::{leaf_prefix_len, leaf_separate};
 use crate::lent::{Damage, Lent};
 use crate::oracle::Key;
 
 /// Document 01, refusal 11: `separate` of equal keys.
 pub const EQUAL_KEYS: u8 = 11;
-
-extern "C" {
-    // 0, or 11 for equal keys; `out` then keeps what it held.
-    fn leaf_separate(a: *const Key, b: *const Key, out: *mut Key) -> u8;
-    fn leaf_prefix_len(a: *const Key, b: *const Key) -> usize;
-}
 
 /// The calls as they are, with nothing around them.
 pub mod bare {
@@ -39,14 +35,10 @@ pub struct Separated {
 pub fn separate(a: &Key, b: &Key, before: &Key) -> Result<Separated, Damage> {
     let (lent_a, lent_b) = (Lent::new(a), Lent::new(b));
     let mut lent_out = Lent::new(before);
+    let (a_ptr, b_ptr, out) = (lent_a.ptr(), lent_b.ptr(), lent_out.ptr_mut());
     // SAFETY: each pointer is to 32 bytes of its own; around them lie bytes of the same allocation.
-    let reply = unsafe {
-        leaf_separate(
-            lent_a.ptr().cast(),
-            lent_b.ptr().cast(),
-            lent_out.ptr_mut().cast(),
-        )
-    };
+    let call = || unsafe { leaf_separate(a_ptr.cast(), b_ptr.cast(), out.cast()) };
+    let reply = metered("leaf_separate", call);
     lent_a.kept("a", a)?;
     lent_b.kept("b", b)?;
     let mut out = [0; 32];
@@ -57,8 +49,10 @@ pub fn separate(a: &Key, b: &Key, before: &Key) -> Result<Separated, Damage> {
 /// `prefix_len` between red zones.
 pub fn prefix_len(a: &Key, b: &Key) -> Result<usize, Damage> {
     let (lent_a, lent_b) = (Lent::new(a), Lent::new(b));
+    let (a_ptr, b_ptr) = (lent_a.ptr(), lent_b.ptr());
     // SAFETY: as in `separate`.
-    let shared = unsafe { leaf_prefix_len(lent_a.ptr().cast(), lent_b.ptr().cast()) };
+    let call = || unsafe { leaf_prefix_len(a_ptr.cast(), b_ptr.cast()) };
+    let shared = metered("leaf_prefix_len", call);
     lent_a.kept("a", a)?;
     lent_b.kept("b", b)?;
     Ok(shared)

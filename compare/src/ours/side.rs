@@ -1,7 +1,7 @@
 //! The library as a side.
 
 use super::keys;
-use super::pages::{LentPage, ValueReply};
+use super::pages::{LeafValue, LentPage};
 use super::work::{self, Reader, TwinPlace, BASE, STORE};
 use crate::lent::Damage;
 use crate::oracle::Key;
@@ -49,7 +49,7 @@ impl Calls for LibraryCalls {
         let mut refusal = None;
         while places.len() < most && refusal.is_none() {
             let index = from + places.len();
-            let twin = pending(&reader.twin(index))?;
+            let twin = pending(&reader.twin(index)?)?;
             let due: &[u8] = match &twin {
                 Ok(record) => crate::plain::pending::part(record, &state.store, page),
                 Err(_) => &[],
@@ -65,15 +65,14 @@ impl Calls for LibraryCalls {
                 Err(number) => refusal = Some(number),
             }
         }
-        reader.done()?;
         Ok((places, refusal))
     }
 
-    fn is_in_scope(work: &Work, key: &Key) -> bool {
+    fn is_in_scope(work: &Work, key: &Key) -> Result<bool, Damage> {
         work::is_in_scope(work, key)
     }
 
-    fn separator(work: &Work) -> Key {
+    fn separator(work: &Work) -> Result<Key, Damage> {
         work::separator(work)
     }
 
@@ -134,7 +133,7 @@ fn or_refused(refusal: u8, accepted: Answer) -> Answer {
     }
 }
 
-fn cell(reply: ValueReply) -> Answer {
+fn cell(reply: LeafValue) -> Answer {
     let found = (reply.offset, reply.len, reply.flag != 0);
     let cell = (reply.absent == 0).then_some(found);
     or_refused(reply.refusal, Answer::Cell(cell))

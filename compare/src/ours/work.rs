@@ -1,6 +1,11 @@
-//! The calls on a work, over the flat list: rows of numbers, and beside them the keys.
+//! The calls on a work, which is lent and changed in place, over a list of entry structs. All that a call is lent stands between red zones.
 
-use crate::lent::{Damage, Lent};
+use super::stack::metered;
+use crate::leaf_updater::{
+    leaf_digest, leaf_ingest, leaf_is_in_scope, leaf_next_base, leaf_open, leaf_part,
+    leaf_remove_cutoff, leaf_separator, leaf_twin, LeafGave, LeafReport,
+};
+use crate::lent::{Damage, Laid, Lent};
 use crate::oracle::Key;
 use crate::plain::calls::Report;
 use crate::plain::digest::Digested;
@@ -8,192 +13,32 @@ use crate::plain::work::{Entry, State, Work};
 use crate::side::Ran;
 use crate::vectors::calls::{Base, Change};
 
-/// The work record after a call, and 0 or the refusal.
-#[repr(C)]
-struct Updated {
-    refusal: u8,
-    work: Work,
-}
-
-/// An ingest's answer: the work record after it, 0 or the refusal, and the dropped cell where it is reported.
-#[repr(C)]
-struct Ingested {
-    refusal: u8,
-    reported: u8,
-    offset: usize,
-    len: usize,
-    work: Work,
-}
-
-/// A digest's answer: the work record after it, 0 or the refusal, the leaves, and the cutoff for which it waits.
-#[repr(C)]
-struct Gave {
-    refusal: u8,
-    waiting: u8,
-    leaves: usize,
-    cutoff: Key,
-    work: Work,
-}
-
-/// A refusal has its number and nothing else: every other field is then zero.
-#[repr(C)]
-#[derive(Clone, Debug, Default, PartialEq)]
-pub struct TwinPlace {
-    pub refusal: u8,
-    pub holder: u8,
-    pub flag: bool,
-    pub offset: usize,
-    pub len: usize,
-    pub key: Key,
-}
+pub use crate::leaf_updater::TwinPlace;
 
 /// The holders that a twin names.
 pub const STORE: u8 = 1;
 pub const BASE: u8 = 2;
 
-/// Kind, flag, from, to, sum.
-const ROW: usize = 5;
+/// What stands in place of an absent key; it is ignored.
+const ABSENT: Key = [0x77; 32];
 
-// A slice is a pointer and a length.
-extern "C" {
-    fn leaf_flat_open(
-        based: u8,
-        page: *const u8,
-        page_len: usize,
-        separator: *const Key,
-        cut: u8,
-        cutoff: *const Key,
-        work: Work,
-        rows: *mut u8,
-        rows_len: usize,
-        keys: *mut u8,
-        keys_len: usize,
-        store: *mut u8,
-        store_len: usize,
-    ) -> Updated;
-    fn leaf_flat_ingest(
-        work: Work,
-        rows: *mut u8,
-        rows_len: usize,
-        keys: *mut u8,
-        keys_len: usize,
-        store: *mut u8,
-        store_len: usize,
-        page: *const u8,
-        page_len: usize,
-        key: *const Key,
-        put: u8,
-        flag: u8,
-        value: *const u8,
-        value_len: usize,
-    ) -> Ingested;
-    fn leaf_flat_digest(
-        work: Work,
-        rows: *mut u8,
-        rows_len: usize,
-        keys: *mut u8,
-        keys_len: usize,
-        store: *mut u8,
-        store_len: usize,
-        page: *const u8,
-        page_len: usize,
-        area: *mut u8,
-        area_len: usize,
-        tickets: *mut u8,
-        tickets_len: usize,
-    ) -> Gave;
-    fn leaf_flat_next_base(
-        work: Work,
-        rows: *const u8,
-        rows_len: usize,
-        keys: *const u8,
-        keys_len: usize,
-        store: *const u8,
-        store_len: usize,
-        page: *const u8,
-        page_len: usize,
-        separator: *const Key,
-        cut: u8,
-        cutoff: *const Key,
-    ) -> Updated;
-    fn leaf_flat_remove_cutoff(
-        work: Work,
-        rows: *const u8,
-        rows_len: usize,
-        keys: *const u8,
-        keys_len: usize,
-        store: *const u8,
-        store_len: usize,
-    ) -> Updated;
-    fn leaf_flat_twin(
-        work: Work,
-        rows: *const u8,
-        rows_len: usize,
-        keys: *const u8,
-        keys_len: usize,
-        store: *const u8,
-        store_len: usize,
-        page: *const u8,
-        page_len: usize,
-        i: usize,
-    ) -> TwinPlace;
-    // Copies the part into `out`, as far as it has room for all of it; answers the part's length.
-    fn leaf_flat_part(
-        work: Work,
-        rows: *const u8,
-        rows_len: usize,
-        keys: *const u8,
-        keys_len: usize,
-        store: *const u8,
-        store_len: usize,
-        page: *const u8,
-        page_len: usize,
-        i: usize,
-        out: *mut u8,
-        out_len: usize,
-    ) -> usize;
-    fn leaf_flat_is_in_scope(work: Work, key: *const Key) -> u8;
-    fn leaf_flat_separator(work: Work, out: *mut Key);
-}
-
-/// The calls as they are, with nothing around them.
+/// The calls as they are, with nothing around them; whether they were accepted.
 pub mod bare {
-    use super::{row, Key, State, TwinPlace, Work, ROW};
-
-    /// List and store, flat.
-    pub struct Flat {
-        pub work: Work,
-        pub rows: Vec<[usize; ROW]>,
-        pub keys: Vec<Key>,
-        pub store: Vec<u8>,
-    }
-
-    impl Flat {
-        pub fn new(state: &State) -> Self {
-            Flat {
-                work: state.work.clone(),
-                rows: state.list.iter().map(row).collect(),
-                keys: state.list.iter().map(|entry| entry.key).collect(),
-                store: state.store.clone(),
-            }
-        }
-    }
+    use super::{Key, State, TwinPlace};
+    use crate::vectors::calls::Base;
 
     // SAFETY of all: pointers and the lengths that belong to them, and places of 32 bytes for keys.
 
+    /// A call on the work, with list and store.
     macro_rules! call {
-        ($call:ident, $flat:ident, $page:ident $(, $more:expr)*) => {
+        ($call:ident, $work:expr, $state:ident $(, $more:expr)*) => {
             unsafe {
                 super::$call(
-                    $flat.work.clone(),
-                    $flat.rows.as_mut_ptr().cast(),
-                    $flat.rows.len(),
-                    $flat.keys.as_mut_ptr().cast(),
-                    $flat.keys.len(),
-                    $flat.store.as_mut_ptr(),
-                    $flat.store.len(),
-                    $page.as_ptr(),
-                    $page.len()
+                    $work,
+                    $state.list.as_mut_ptr(),
+                    $state.list.len(),
+                    $state.store.as_mut_ptr(),
+                    $state.store.len()
                     $(, $more)*
                 )
             }
@@ -201,137 +46,174 @@ pub mod bare {
     }
 
     #[inline(always)]
-    pub fn twin(flat: &mut Flat, page: &[u8], i: usize) -> TwinPlace {
-        call!(leaf_flat_twin, flat, page, i)
+    pub fn open(state: &mut State, base: &Base, cutoff: &Key) -> bool {
+        let (page, length) = (base.page.as_ptr(), base.page.len());
+        let separator = &base.separator;
+        let work = &mut state.work;
+        call!(leaf_open, work, state, 1, page, length, separator, 1, cutoff) == 0
     }
 
-    /// An ingest of a new value; whether it was accepted.
+    /// An ingest of a new value.
     #[inline(always)]
-    pub fn put(flat: &mut Flat, page: &[u8], key: &Key, value: &[u8]) -> bool {
-        let (bytes, length) = (value.as_ptr(), value.len());
-        let after = call!(leaf_flat_ingest, flat, page, key, 1, 0, bytes, length);
-        flat.work = after.work;
-        after.refusal == 0
+    pub fn put(state: &mut State, page: &[u8], key: &Key, value: &[u8]) -> bool {
+        let (page, page_length) = (page.as_ptr(), page.len());
+        let (value, length) = (value.as_ptr(), value.len());
+        let work = &mut state.work;
+        let report = call!(
+            leaf_ingest,
+            work,
+            state,
+            page,
+            page_length,
+            key,
+            1,
+            0,
+            value,
+            length
+        );
+        report.refusal == 0
     }
 
     /// A digest; how many leaves it gave, or None where it was refused.
     #[inline(always)]
     pub fn digest(
-        flat: &mut Flat,
+        state: &mut State,
         page: &[u8],
         area: &mut [u8],
         tickets: &mut [u8],
     ) -> Option<usize> {
-        let after = call!(
-            leaf_flat_digest,
-            flat,
-            page,
+        let work = &mut state.work;
+        let gave = call!(
+            leaf_digest,
+            work,
+            state,
+            page.as_ptr(),
+            page.len(),
             area.as_mut_ptr(),
             area.len(),
             tickets.as_mut_ptr(),
             tickets.len()
         );
-        flat.work = after.work;
-        (after.refusal == 0).then_some(after.leaves)
+        (gave.refusal == 0).then_some(gave.leaves)
+    }
+
+    #[inline(always)]
+    pub fn next_base(state: &mut State, base: &Base, cutoff: &Key) -> bool {
+        let (page, length) = (base.page.as_ptr(), base.page.len());
+        let separator = &base.separator;
+        let work = &mut state.work;
+        call!(
+            leaf_next_base,
+            work,
+            state,
+            page,
+            length,
+            separator,
+            1,
+            cutoff
+        ) == 0
+    }
+
+    #[inline(always)]
+    pub fn remove_cutoff(state: &mut State) -> bool {
+        let work = &mut state.work;
+        call!(leaf_remove_cutoff, work, state) == 0
+    }
+
+    #[inline(always)]
+    pub fn twin(state: &mut State, page: &[u8], i: usize) -> TwinPlace {
+        call!(leaf_twin, state.work, state, page.as_ptr(), page.len(), i)
     }
 }
 
-/// List and store as the flat calls are lent them.
-struct Flat {
-    rows: Lent,
-    keys: Lent,
+macro_rules! put_fields {
+    ($from:expr, $at:expr; $($field:ident),*) => {
+        $((*$at).$field = $from.$field;)*
+    };
+}
+
+impl Laid for Work {
+    unsafe fn put(&self, at: *mut Self) {
+        put_fields!(self, at; turn, based, low, used, filled, count, bytes, latest, cut, cutoff, over);
+        put_fields!(self, at; overriding, floor, taken, last);
+    }
+}
+
+impl Laid for Entry {
+    unsafe fn put(&self, at: *mut Self) {
+        put_fields!(self, at; kind, flag, from, to, sum, key);
+    }
+}
+
+/// Work record, list and store, as they are lent to a call.
+struct LentWork {
+    work: Lent,
+    list: Lent,
     store: Lent,
     entries: usize,
     bytes: usize,
+    /// The bytes of all three before the call.
+    before: [Vec<u8>; 3],
 }
 
-impl Flat {
+impl LentWork {
     fn new(state: &State) -> Self {
-        let rows: Vec<usize> = state.list.iter().flat_map(row).collect();
-        let keys: Vec<u8> = state.list.iter().flat_map(|entry| entry.key).collect();
-        Flat {
-            rows: Lent::numbers(&rows),
-            keys: Lent::new(&keys),
-            store: Lent::new(&state.store),
+        let work = Lent::structs(&[state.work]);
+        let list = Lent::structs(&state.list);
+        let store = Lent::new(&state.store);
+        LentWork {
+            before: [work.bytes(), list.bytes(), store.bytes()],
+            work,
+            list,
+            store,
             entries: state.list.len(),
             bytes: state.store.len(),
         }
     }
 
-    /// What the call left, with the work record that it answered.
-    fn state(&self, work: Work) -> Result<State, Damage> {
-        let rows = self.rows.numbers_after_call("rows")?;
-        let keys = self.keys.after_call("keys")?;
-        let list = rows.chunks_exact(ROW).zip(keys.chunks_exact(32));
+    /// What the call left. Refused, it must have kept every byte, those between fields among them.
+    fn left(&self, refusal: u8) -> Result<State, Damage> {
+        if refusal != 0 {
+            self.list_and_store_kept()?;
+        }
         Ok(State {
-            work,
-            list: list
-                .map(|(row, key)| entry(row, key))
-                .collect::<Result<_, _>>()?,
+            work: self.work_left(refusal)?,
+            list: self.list.structs_after_call("list")?,
             store: self.store.after_call("store")?.to_vec(),
         })
     }
+
+    fn work_left(&self, refusal: u8) -> Result<Work, Damage> {
+        if refusal != 0 {
+            self.work.kept("work", &self.before[0])?;
+        }
+        Ok(self.work.structs_after_call("work")?[0])
+    }
+
+    fn list_and_store_kept(&self) -> Result<(), Damage> {
+        self.list.kept("list", &self.before[1])?;
+        self.store.kept("store", &self.before[2])
+    }
 }
 
-fn row(entry: &Entry) -> [usize; ROW] {
-    [
-        entry.kind.into(),
-        entry.flag.into(),
-        entry.from,
-        entry.to,
-        entry.sum,
-    ]
+/// A call that changes work, list and store: these three as they are lent, and what else it takes.
+macro_rules! changing {
+    ($call:ident, $lent:ident $(, $more:expr)*) => {{
+        let (work, list) = ($lent.work.ptr_mut().cast(), $lent.list.ptr_mut().cast());
+        let (entries, store, bytes) = ($lent.entries, $lent.store.ptr_mut(), $lent.bytes);
+        let call = || unsafe { $call(work, list, entries, store, bytes $(, $more)*) };
+        metered(stringify!($call), call)
+    }};
 }
 
-fn entry(row: &[usize], key: &[u8]) -> Result<Entry, Damage> {
-    let small =
-        |n: usize| u8::try_from(n).map_err(|_| Damage(format!("wrote {n} as kind or flag")));
-    Ok(Entry {
-        kind: small(row[0])?,
-        flag: small(row[1])?,
-        from: row[2],
-        to: row[3],
-        sum: row[4],
-        key: key.try_into().expect("32 bytes"),
-    })
-}
-
-/// A call that only reads list and store: the work record, both as they are lent, and what else it takes.
+/// A call that only reads list and store: the work record as it takes it, these two as they are lent, and what else it takes.
 macro_rules! reading {
-    ($call:ident, $state:ident, $flat:ident $(, $more:expr)*) => {
-        unsafe {
-            $call(
-                $state.work.clone(),
-                $flat.rows.ptr(),
-                $flat.entries,
-                $flat.keys.ptr(),
-                $flat.entries,
-                $flat.store.ptr(),
-                $flat.bytes
-                $(, $more)*
-            )
-        }
-    };
-}
-
-/// A call that changes list and store, with the base page.
-macro_rules! writing {
-    ($call:ident, $state:ident, $flat:ident, $page:expr, $length:expr $(, $more:expr)*) => {
-        unsafe {
-            $call(
-                $state.work.clone(),
-                $flat.rows.ptr_mut(),
-                $flat.entries,
-                $flat.keys.ptr_mut(),
-                $flat.entries,
-                $flat.store.ptr_mut(),
-                $flat.bytes,
-                $page,
-                $length
-                $(, $more)*
-            )
-        }
-    };
+    ($call:ident, $work:expr, $lent:expr $(, $more:expr)*) => {{
+        let (work, list) = ($work, $lent.list.ptr().cast());
+        let (entries, store, bytes) = ($lent.entries, $lent.store.ptr(), $lent.bytes);
+        let call = || unsafe { $call(work, list, entries, store, bytes $(, $more)*) };
+        metered(stringify!($call), call)
+    }};
 }
 
 fn refused_or_done(refusal: u8) -> Result<(), u8> {
@@ -341,69 +223,95 @@ fn refused_or_done(refusal: u8) -> Result<(), u8> {
     }
 }
 
-// SAFETY of all calls: pointers and the lengths that belong to them, numbers aligned, places of 32 bytes for keys.
+/// A base's page, separator and cutoff, as they are lent.
+struct LentBase<'a> {
+    page: &'a [u8],
+    keys: [Key; 2],
+    lent_page: Lent,
+    lent_keys: [Lent; 2],
+}
+
+impl<'a> LentBase<'a> {
+    fn new(base: Option<&'a Base>, cutoff: Option<Key>) -> Self {
+        let page = base.map_or(&[][..], |base| &base.page);
+        let keys = [
+            base.map_or(ABSENT, |base| base.separator),
+            cutoff.unwrap_or(ABSENT),
+        ];
+        LentBase {
+            page,
+            keys,
+            lent_page: Lent::new(page),
+            lent_keys: keys.map(|key| Lent::new(&key)),
+        }
+    }
+
+    fn kept(&self) -> Result<(), Damage> {
+        self.lent_page.kept("page", self.page)?;
+        self.lent_keys[0].kept("separator", &self.keys[0])?;
+        self.lent_keys[1].kept("cutoff", &self.keys[1])
+    }
+}
+
+// SAFETY of all calls: pointers and the lengths that belong to them, structs aligned, places of 32 bytes for keys.
 
 pub fn open(state: &mut State, base: Option<&Base>, cutoff: Option<Key>) -> Ran<()> {
-    let mut flat = Flat::new(state);
-    let page = Lent::new(base.map_or(&[], |base| &base.page));
-    let page_len = base.map_or(0, |base| base.page.len());
-    // what an absent key holds is ignored
-    let separator = base.map_or([0x77; 32], |base| base.separator);
-    let after = unsafe {
-        leaf_flat_open(
-            base.is_some().into(),
-            page.ptr(),
-            page_len,
-            &separator,
-            cutoff.is_some().into(),
-            &cutoff.unwrap_or([0x77; 32]),
-            state.work.clone(),
-            flat.rows.ptr_mut(),
-            flat.entries,
-            flat.keys.ptr_mut(),
-            flat.entries,
-            flat.store.ptr_mut(),
-            flat.bytes,
-        )
-    };
-    page.kept("page", base.map_or(&[], |base| &base.page))?;
-    *state = flat.state(after.work)?;
-    Ok(refused_or_done(after.refusal))
+    let mut lent = LentWork::new(state);
+    let new = LentBase::new(base, cutoff);
+    let (page, length) = (new.lent_page.ptr(), new.page.len());
+    let [separator, end] = [0, 1].map(|i| new.lent_keys[i].ptr().cast());
+    let (based, cut) = (base.is_some().into(), cutoff.is_some().into());
+    let refusal = changing!(leaf_open, lent, based, page, length, separator, cut, end);
+    new.kept()?;
+    *state = lent.left(refusal)?;
+    Ok(refused_or_done(refusal))
 }
 
 pub fn ingest(state: &mut State, page: &[u8], key: &Key, change: &Change) -> Ran<Report> {
-    let mut flat = Flat::new(state);
-    let lent = Lent::new(page);
+    let mut lent = LentWork::new(state);
+    let (lent_page, lent_key) = (Lent::new(page), Lent::new(key));
     // a deletion's value and flag are ignored
     let (put, flag, value): (u8, u8, &[u8]) = match change {
         Change::Put { value, flag } => (1, (*flag).into(), value),
         Change::Delete => (0, 1, &[0x77; 2000]),
     };
     let lent_value = Lent::new(value);
-    let after = writing!(
-        leaf_flat_ingest,
-        state,
-        flat,
-        lent.ptr(),
-        page.len(),
-        key,
+    let (base, base_length) = (lent_page.ptr(), page.len());
+    let (key_ptr, bytes, length) = (lent_key.ptr().cast(), lent_value.ptr(), value.len());
+    let report = changing!(
+        leaf_ingest,
+        lent,
+        base,
+        base_length,
+        key_ptr,
         put,
         flag,
-        lent_value.ptr(),
-        value.len()
+        bytes,
+        length
     );
-    lent.kept("page", page)?;
+    lent_page.kept("page", page)?;
+    lent_key.kept("key", key)?;
     lent_value.kept("value", value)?;
-    let reply = match (after.refusal, after.reported) {
-        (0, 0) => Ok(None),
-        (0, _) => Ok(Some((after.offset, after.len))),
-        (number, _) => Err(number),
-    };
-    if after.reported == 0 && (after.offset, after.len) != (0, 0) {
-        return Err(Damage("a place where nothing is reported".to_string()));
+    *state = lent.left(report.refusal)?;
+    reported(&report)
+}
+
+fn reported(report: &LeafReport) -> Ran<Report> {
+    match *report {
+        LeafReport {
+            refusal: 0,
+            reported: 1,
+            offset,
+            len,
+        } => Ok(Ok(Some((offset, len)))),
+        LeafReport {
+            refusal,
+            reported: 0,
+            offset: 0,
+            len: 0,
+        } => Ok(refused_or_done(refusal).map(|()| None)),
+        _ => Err(Damage(format!("not an ingest's answer: {report:?}"))),
     }
-    *state = flat.state(after.work)?;
-    Ok(reply)
 }
 
 /// A digest: state, area and tickets are then what it left.
@@ -413,104 +321,115 @@ pub fn digest(
     area: &mut [u8],
     tickets: &mut [u8],
 ) -> Ran<Digested> {
-    let mut flat = Flat::new(state);
-    let lent = Lent::new(page);
+    let mut lent = LentWork::new(state);
+    let lent_page = Lent::new(page);
     let (mut lent_area, mut lent_tickets) = (Lent::new(area), Lent::new(tickets));
-    let after = writing!(
-        leaf_flat_digest,
-        state,
-        flat,
-        lent.ptr(),
-        page.len(),
-        lent_area.ptr_mut(),
-        area.len(),
-        lent_tickets.ptr_mut(),
-        tickets.len()
+    let (base, base_length) = (lent_page.ptr(), page.len());
+    let (pages, pages_length) = (lent_area.ptr_mut(), area.len());
+    let (packed, packed_length) = (lent_tickets.ptr_mut(), tickets.len());
+    let gave = changing!(
+        leaf_digest,
+        lent,
+        base,
+        base_length,
+        pages,
+        pages_length,
+        packed,
+        packed_length
     );
-    lent.kept("page", page)?;
+    lent_page.kept("page", page)?;
     area.copy_from_slice(lent_area.after_call("area")?);
     tickets.copy_from_slice(lent_tickets.after_call("tickets")?);
-    *state = flat.state(after.work)?;
-    let (waiting, leaves, cutoff) = (after.waiting != 0, after.leaves, after.cutoff);
-    if (!waiting && cutoff != [0; 32]) || (after.refusal != 0 && (waiting || leaves > 0)) {
-        return Err(Damage(
-            "an answer beside a refusal, or a cutoff without a merge request".to_string(),
-        ));
+    *state = lent.left(gave.refusal)?;
+    digested(&gave)
+}
+
+fn digested(gave: &LeafGave) -> Ran<Digested> {
+    let LeafGave {
+        refusal,
+        waiting,
+        leaves,
+        cutoff,
+    } = *gave;
+    match (refusal, waiting) {
+        (0, 1) => {
+            let wait = Some(cutoff);
+            Ok(Ok(Digested { leaves, wait }))
+        }
+        (0, 0) if cutoff == [0; 32] => Ok(Ok(Digested { leaves, wait: None })),
+        (_, 0) if (leaves, cutoff) == (0, [0; 32]) => Ok(Err(refusal)),
+        _ => Err(Damage(format!("not a digest's answer: {gave:?}"))),
     }
-    let wait = waiting.then_some(cutoff);
-    Ok(refused_or_done(after.refusal).map(|()| Digested { leaves, wait }))
 }
 
 pub fn next_base(state: &mut State, base: &Base, cutoff: Option<Key>) -> Ran<()> {
-    let flat = Flat::new(state);
-    let page = Lent::new(&base.page);
-    let after = reading!(
-        leaf_flat_next_base,
-        state,
-        flat,
-        page.ptr(),
-        base.page.len(),
-        &base.separator,
-        cutoff.is_some().into(),
-        &cutoff.unwrap_or([0x77; 32])
+    let mut lent = LentWork::new(state);
+    let new = LentBase::new(Some(base), cutoff);
+    let (page, length) = (new.lent_page.ptr(), new.page.len());
+    let [separator, end] = [0, 1].map(|i| new.lent_keys[i].ptr().cast());
+    let (work, cut) = (lent.work.ptr_mut().cast(), cutoff.is_some().into());
+    let refusal = reading!(
+        leaf_next_base,
+        work,
+        lent,
+        page,
+        length,
+        separator,
+        cut,
+        end
     );
-    page.kept("page", &base.page)?;
-    *state = flat.state(after.work)?;
-    Ok(refused_or_done(after.refusal))
+    new.kept()?;
+    lent.list_and_store_kept()?;
+    state.work = lent.work_left(refusal)?;
+    Ok(refused_or_done(refusal))
 }
 
 pub fn remove_cutoff(state: &mut State) -> Ran<()> {
-    let flat = Flat::new(state);
-    let after = reading!(leaf_flat_remove_cutoff, state, flat);
-    *state = flat.state(after.work)?;
-    Ok(refused_or_done(after.refusal))
+    let mut lent = LentWork::new(state);
+    let work = lent.work.ptr_mut().cast();
+    let refusal = reading!(leaf_remove_cutoff, work, lent);
+    lent.list_and_store_kept()?;
+    state.work = lent.work_left(refusal)?;
+    Ok(refused_or_done(refusal))
 }
 
 /// What the twin call and the part call read, lent once for any number of them.
 pub struct Reader<'a> {
     state: &'a State,
     page: &'a [u8],
-    flat: Flat,
-    lent: Lent,
+    lent: LentWork,
+    lent_page: Lent,
 }
 
 impl<'a> Reader<'a> {
     pub fn new(state: &'a State, page: &'a [u8]) -> Self {
-        let (flat, lent) = (Flat::new(state), Lent::new(page));
         Reader {
             state,
             page,
-            flat,
-            lent,
+            lent: LentWork::new(state),
+            lent_page: Lent::new(page),
         }
     }
 
-    pub fn twin(&self, i: usize) -> TwinPlace {
-        let Reader { state, flat, .. } = self;
-        let (page, length) = (self.lent.ptr(), self.page.len());
-        reading!(leaf_flat_twin, state, flat, page, length, i)
+    pub fn twin(&self, i: usize) -> Result<TwinPlace, Damage> {
+        let (page, length) = (self.lent_page.ptr(), self.page.len());
+        let twin = reading!(leaf_twin, self.state.work, self.lent, page, length, i);
+        self.kept()?;
+        Ok(twin)
     }
 
     /// The part, by way of a buffer of `room` bytes; None where it had no room for the part.
     pub fn part(&self, i: usize, room: usize) -> Result<Option<Vec<u8>>, Damage> {
-        let Reader { state, flat, .. } = self;
-        let (page, page_length) = (self.lent.ptr(), self.page.len());
+        let (page, page_length) = (self.lent_page.ptr(), self.page.len());
         let held = vec![0x5a; room];
-        let mut out = Lent::new(&held);
-        let into = out.ptr_mut();
-        let length = reading!(
-            leaf_flat_part,
-            state,
-            flat,
-            page,
-            page_length,
-            i,
-            into,
-            room
-        );
-        let bytes = out.after_call("out")?;
+        let mut lent_out = Lent::new(&held);
+        let out = lent_out.ptr_mut();
+        let work = self.state.work;
+        let length = reading!(leaf_part, work, self.lent, page, page_length, i, out, room);
+        self.kept()?;
+        let bytes = lent_out.after_call("out")?;
         if room < length {
-            out.kept("out", &held)?;
+            lent_out.kept("out", &held)?;
             return Ok(None);
         }
         if bytes[length..] != held[length..] {
@@ -520,55 +439,29 @@ impl<'a> Reader<'a> {
     }
 
     /// The calls only read.
-    pub fn done(self) -> Result<(), Damage> {
-        self.lent.kept("page", self.page)?;
-        if self.flat.state(self.state.work.clone())? != *self.state {
-            return Err(Damage("changed list or store".to_string()));
-        }
-        Ok(())
+    fn kept(&self) -> Result<(), Damage> {
+        self.lent_page.kept("page", self.page)?;
+        self.lent.list_and_store_kept()
     }
 }
 
-pub fn is_in_scope(work: &Work, key: &Key) -> bool {
-    unsafe { leaf_flat_is_in_scope(work.clone(), key) != 0 }
-}
-
-pub fn separator(work: &Work) -> Key {
-    let mut out = [0; 32];
-    unsafe { leaf_flat_separator(work.clone(), &mut out) };
-    out
-}
-
-#[cfg(test)]
-mod tests {
-    use super::*;
-    use crate::side::unopened;
-
-    /// Rows and keys of unequal number are no list: 7, and nothing is changed.
-    #[test]
-    fn unequal_rows_and_keys_are_refused() {
-        for (rows, keys) in [(121, 120), (121, 122), (0, 121), (121, 0)] {
-            let state = unopened(122, 4096);
-            let mut flat = Flat::new(&state);
-            let after = unsafe {
-                leaf_flat_open(
-                    0,
-                    flat.store.ptr(),
-                    0,
-                    &[0; 32],
-                    0,
-                    &[0; 32],
-                    state.work.clone(),
-                    flat.rows.ptr_mut(),
-                    rows,
-                    flat.keys.ptr_mut(),
-                    keys,
-                    flat.store.ptr_mut(),
-                    flat.bytes,
-                )
-            };
-            assert_eq!(after.refusal, 7);
-            assert_eq!(flat.state(after.work), Ok(state));
-        }
+pub fn is_in_scope(work: &Work, key: &Key) -> Result<bool, Damage> {
+    let (work, lent_key) = (*work, Lent::new(key));
+    let key_ptr = lent_key.ptr().cast();
+    let call = || unsafe { leaf_is_in_scope(work, key_ptr) };
+    let answer = metered("leaf_is_in_scope", call);
+    lent_key.kept("key", key)?;
+    match answer {
+        0 | 1 => Ok(answer == 1),
+        other => Err(Damage(format!("neither 1 nor 0: {other}"))),
     }
+}
+
+pub fn separator(work: &Work) -> Result<Key, Damage> {
+    let (work, mut lent_out) = (*work, Lent::new(&ABSENT));
+    let out = lent_out.ptr_mut().cast();
+    metered("leaf_separator", || unsafe { leaf_separator(work, out) });
+    let mut key = [0; 32];
+    key.copy_from_slice(lent_out.after_call("out")?);
+    Ok(key)
 }

@@ -57,12 +57,12 @@ impl Calls for PlainCalls {
         Ok((places, None))
     }
 
-    fn is_in_scope(work: &Work, key: &Key) -> bool {
-        work.is_in_scope(key)
+    fn is_in_scope(work: &Work, key: &Key) -> Result<bool, Damage> {
+        Ok(work.is_in_scope(key))
     }
 
-    fn separator(work: &Work) -> Key {
-        work.separator()
+    fn separator(work: &Work) -> Result<Key, Damage> {
+        Ok(work.separator())
     }
 
     fn on_page(call: &Call) -> Answered {

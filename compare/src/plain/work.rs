@@ -2,6 +2,10 @@
 
 use crate::oracle::Key;
 
+/// The work record, and an operation, both as the library is lent them. An insert's value is the store's bytes from..to; a chunk is
+/// the base records from..to, and `sum` their value bytes.
+pub use crate::leaf_updater::{Entry, Work};
+
 /// The turns of a work. Another number can be lent; it is unsound.
 pub const OPEN: u8 = 1;
 pub const WAITING: u8 = 2;
@@ -13,47 +17,6 @@ pub const CHUNK: u8 = 2;
 
 /// What stands in place of an absent key.
 pub const NO_KEY: Key = [0; 32];
-
-/// The work record. A flag beside a key says whether the key is there.
-#[repr(C)]
-#[derive(Clone, Debug, Default, PartialEq)]
-pub struct Work {
-    pub turn: u8,
-    /// Whether there is a base.
-    pub based: u8,
-    /// How many base records are passed; 0 where the page is ignored.
-    pub low: usize,
-    /// Entries in use, and store bytes in use.
-    pub used: usize,
-    pub filled: usize,
-    /// Count and value bytes of the listed records.
-    pub count: usize,
-    pub bytes: usize,
-    /// The latest base's separator; it stays after a cutoff removal.
-    pub latest: Key,
-    pub cut: u8,
-    pub cutoff: Key,
-    pub over: u8,
-    pub overriding: Key,
-    /// The lowest key that separators and merge requests still allow.
-    pub floor: Key,
-    /// The last key taken, a deletion's too.
-    pub taken: u8,
-    pub last: Key,
-}
-
-/// An operation. An insert's value is the store's bytes from..to; a chunk is the base records from..to, and `sum` their
-/// value bytes.
-#[repr(C)]
-#[derive(Clone, Debug, Default, PartialEq)]
-pub struct Entry {
-    pub kind: u8,
-    pub flag: u8,
-    pub from: usize,
-    pub to: usize,
-    pub sum: usize,
-    pub key: Key,
-}
 
 #[derive(Clone, Debug, Default, PartialEq)]
 pub struct State {
