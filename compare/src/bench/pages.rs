@@ -24,10 +24,16 @@ pub fn run() -> bool {
     let range = [0, RECORDS, RECORDS];
     let mut out = vec![0; PAGE_SIZE];
     let built = bare::rebuild(&page, 0, RECORDS, RECORDS, &mut out) == 0;
-    if !built || out != build(&pool, &node, range) || bare::check(&page) != plain_check(&page) {
+    let indices: Vec<usize> = (0..CALLS).map(|_| rng.between(0, RECORDS - 1)).collect();
+    if !built
+        || out != build(&pool, &node, range)
+        || bare::check(&page) != plain_check(&page)
+        || !reads_agree(&page, &node, &indices)
+    {
         return false;
     }
     bench_check(&page);
+    bench_reads(&page, &node, &indices);
     bench_get(&page, &node, &mut rng);
     bench_build(&page, &node, &pool, &mut out);
     true
@@ -50,6 +56,66 @@ fn bench_check(page: &[u8]) {
         CALLS,
         rust,
         ours,
+    );
+}
+
+// The Rust's reads, calls as ours are.
+
+#[inline(never)]
+fn rust_key(node: &LeafNode, i: usize) -> Key {
+    node.key(i)
+}
+
+#[inline(never)]
+fn rust_value(node: &LeafNode, i: usize) -> (&[u8], bool) {
+    node.value(i)
+}
+
+#[inline(never)]
+fn rust_values_size(node: &LeafNode, from: usize, to: usize) -> usize {
+    node.values_size(from, to)
+}
+
+fn reads_agree(page: &[u8], node: &LeafNode, indices: &[usize]) -> bool {
+    indices.iter().all(|&i| {
+        let (key, value) = (bare::key(page, i), bare::value(page, i));
+        let (rust_value, rust_flag) = rust_value(node, i);
+        let size = bare::values_size(page, i, RECORDS);
+        (key.refusal, key.key) == (0, rust_key(node, i))
+            && (value.refusal, value.flag != 0) == (0, rust_flag)
+            && &page[value.offset..][..value.len] == rust_value
+            && (size.refusal, size.bytes) == (0, rust_values_size(node, i, RECORDS))
+    })
+}
+
+fn bench_reads(page: &[u8], node: &LeafNode, indices: &[usize]) {
+    bench_read(
+        "page key",
+        indices,
+        |i| _ = black_box(rust_key(black_box(node), i)),
+        |i| _ = black_box(bare::key(black_box(page), i)),
+    );
+    bench_read(
+        "page value",
+        indices,
+        |i| _ = black_box(rust_value(black_box(node), i)),
+        |i| _ = black_box(bare::value(black_box(page), i)),
+    );
+    bench_read(
+        "values_size",
+        indices,
+        |i| _ = black_box(rust_values_size(black_box(node), i, RECORDS)),
+        |i| _ = black_box(bare::values_size(black_box(page), i, RECORDS)),
+    );
+}
+
+fn bench_read(call: &str, indices: &[usize], rust: impl Fn(usize), ours: impl Fn(usize)) {
+    report(
+        call,
+        "100 records; ours checks the page",
+        indices.len(),
+        || indices.iter().for_each(|&i| rust(i)),
+        || indices.iter().for_each(|&i| ours(i)),
     );
 }
 

@@ -1,5 +1,5 @@
-//! Calls on a work. Ours check work, list, store and page at every call, as document 01 demands; the Rust never does. A twin call has no
-//! other side and does little beside the check: its lines say how the check grows with what is lent.
+//! Calls on a work. Ours check work, list, store and page at every call, as document 01 demands; the Rust never does. Twin and part have no
+//! other side and do little beside the check: their lines say how the check grows with what is lent.
 
 use super::{alone, print_both, report, report_used_up, time, UsedUp, SEED};
 use crate::oracle::updater::Updater;
@@ -9,6 +9,7 @@ use crate::pages::{made, LONGEST_VALUE};
 use crate::plain::calls::{ingest, open};
 use crate::plain::digest::digest;
 use crate::plain::page::{build, Record};
+use crate::plain::verdict::SHORT_AREA;
 use crate::plain::work::{State, WAITING};
 use crate::rng::Rng;
 use crate::side::unopened;
@@ -51,6 +52,9 @@ pub fn run() -> bool {
         && bench_next_base(&small, &next)
         && bench_cutoff_removal(&small)
         && bench_twin(&base, &keys)
+        && bench_part(&base, &keys)
+        && bench_is_in_scope(&small, &keys)
+        && bench_separator(&small)
 }
 
 /// A base of few records, whose separator is so many times this byte.
@@ -212,7 +216,8 @@ fn bench_digest(inputs: &str, base: &Base, state: &State) -> bool {
     let [pages, tickets] = &mut area;
     let ours = bare::digest(&mut state.clone(), &base.page, pages, tickets);
     let rust = Updater::of(state, &base.page).digest_bare();
-    if ours != Some(rust) {
+    let short = bare::digest(&mut state.clone(), &base.page, &mut [], &mut []);
+    if (ours, short) != (Ok(rust), Err(SHORT_AREA)) {
         return false;
     }
     let lent = RefCell::new(area);
@@ -231,12 +236,12 @@ fn bench_digest(inputs: &str, base: &Base, state: &State) -> bool {
             make: || state.clone(),
             run: |state: &mut State| {
                 let [pages, tickets] = &mut *lent.borrow_mut();
-                black_box(bare::digest(state, &base.page, pages, tickets));
+                black_box(bare::digest(state, &base.page, pages, tickets).ok());
             },
         },
         // without an area it is refused when all is checked
         Some(|state: &mut State| {
-            black_box(bare::digest(state, &base.page, &mut [], &mut []));
+            black_box(bare::digest(state, &base.page, &mut [], &mut []).ok());
         }),
     );
     true
@@ -310,18 +315,90 @@ fn bench_twin(base: &Base, keys: &[Key]) -> bool {
         (CHANGES, 4096, 4096),
         (CHANGES, 4096, 65536),
     ];
+    bench_alone("twin", base, keys, &cases, |state, page| {
+        bare::twin(state, page, 0).refusal == 0
+    })
+}
+
+fn bench_part(base: &Base, keys: &[Key]) -> bool {
+    let out = RefCell::new([0; VALUE]);
+    let cases = [(0, 121, 4096), (CHANGES, 512, 4096)];
+    bench_alone("part", base, keys, &cases, |state, page| {
+        bare::part(state, page, 0, &mut *out.borrow_mut()) == VALUE
+    })
+}
+
+/// A call that only reads and has no other side, on works with so many changes, entries and store bytes. Whether it was accepted.
+fn bench_alone(
+    call: &str,
+    base: &Base,
+    keys: &[Key],
+    cases: &[(usize, usize, usize)],
+    run: impl Fn(&mut State, &[u8]) -> bool,
+) -> bool {
     cases.iter().all(|&(changes, list, store)| {
         let Some(mut state) = changed(base, &keys[..changes], list, store) else {
             return false;
         };
         let inputs = format!("{changes} changes, list {list}, store {store}");
-        alone("twin", &inputs, CALLS, || {
+        let mut accepted = true;
+        alone(call, &inputs, CALLS, || {
             for _ in 0..CALLS {
-                black_box(bare::twin(black_box(&mut state), &base.page, 0));
+                accepted &= run(black_box(&mut state), &base.page);
             }
         });
-        bare::twin(&mut state, &base.page, 0).refusal == 0
+        accepted
     })
+}
+
+fn bench_is_in_scope(small: &Base, keys: &[Key]) -> bool {
+    let Some(state) = changed_under(small, Some(CUTOFF), &[], 121, STORE) else {
+        return false;
+    };
+    let (work, opened) = (&state.work, Updater::of(&state, &small.page));
+    if (keys.iter()).any(|key| bare::is_in_scope(work, key) != opened.is_in_scope_bare(key)) {
+        return false;
+    }
+    let rust = || {
+        for key in keys {
+            black_box(opened.is_in_scope_bare(black_box(key)));
+        }
+    };
+    let ours = || {
+        for key in keys {
+            black_box(bare::is_in_scope(black_box(work), black_box(key)));
+        }
+    };
+    let inputs = "reads the work record alone";
+    report("is_in_scope", inputs, keys.len(), rust, ours);
+    true
+}
+
+/// Of a work that waits, so that there is an override.
+fn bench_separator(small: &Base) -> bool {
+    let Some(state) = waiting(small, 121) else {
+        return false;
+    };
+    let (work, waiting) = (&state.work, Updater::of(&state, &[]));
+    let mut out = [0; 32];
+    bare::separator(work, &mut out);
+    if out != waiting.separator_bare() {
+        return false;
+    }
+    let rust = || {
+        for _ in 0..CALLS {
+            black_box(black_box(&waiting).separator_bare());
+        }
+    };
+    let ours = || {
+        for _ in 0..CALLS {
+            bare::separator(black_box(work), &mut out);
+            black_box(&out);
+        }
+    };
+    let inputs = "reads the work record alone";
+    report("separator", inputs, CALLS, rust, ours);
+    true
 }
 
 fn put_call(key: Key, value: &[u8]) -> Call {

@@ -135,6 +135,16 @@ impl Updater {
         self.inner.remove_cutoff();
     }
 
+    #[inline(never)]
+    pub fn is_in_scope_bare(&self, key: &Key) -> bool {
+        self.inner.is_in_scope(key)
+    }
+
+    #[inline(never)]
+    pub fn separator_bare(&self) -> Key {
+        self.inner.separator()
+    }
+
     pub fn digest_bare(&mut self) -> usize {
         let mut leaves = 0;
         let result = self.inner.digest(&mut Each(|separator, node, cutoff| {

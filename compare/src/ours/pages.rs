@@ -17,13 +17,28 @@ pub const SHORT_AREA: u8 = 17;
 
 /// The calls as they are, with nothing around them.
 pub mod bare {
-    use super::{Key, LeafValue};
+    use super::{Key, LeafKey, LeafSize, LeafValue};
 
-    // SAFETY of all three: a pointer and the length that belongs to it, and places of 32 bytes for keys.
+    // SAFETY of all: a pointer and the length that belongs to it, and places of 32 bytes for keys.
 
     #[inline(always)]
     pub fn check(page: &[u8]) -> u8 {
         unsafe { super::leaf_page_check(page.as_ptr(), page.len()) }
+    }
+
+    #[inline(always)]
+    pub fn key(page: &[u8], i: usize) -> LeafKey {
+        unsafe { super::leaf_page_key(page.as_ptr(), page.len(), i) }
+    }
+
+    #[inline(always)]
+    pub fn value(page: &[u8], i: usize) -> LeafValue {
+        unsafe { super::leaf_page_value(page.as_ptr(), page.len(), i) }
+    }
+
+    #[inline(always)]
+    pub fn values_size(page: &[u8], from: usize, to: usize) -> LeafSize {
+        unsafe { super::leaf_page_values_size(page.as_ptr(), page.len(), from, to) }
     }
 
     #[inline(always)]

@@ -24,7 +24,7 @@ const ABSENT: Key = [0x77; 32];
 
 /// The calls as they are, with nothing around them; whether they were accepted.
 pub mod bare {
-    use super::{Key, State, TwinPlace};
+    use super::{Key, State, TwinPlace, Work};
     use crate::vectors::calls::Base;
 
     // SAFETY of all: pointers and the lengths that belong to them, and places of 32 bytes for keys.
@@ -74,14 +74,14 @@ pub mod bare {
         report.refusal == 0
     }
 
-    /// A digest; how many leaves it gave, or None where it was refused.
+    /// A digest; how many leaves it gave, or by which number it was refused.
     #[inline(always)]
     pub fn digest(
         state: &mut State,
         page: &[u8],
         area: &mut [u8],
         tickets: &mut [u8],
-    ) -> Option<usize> {
+    ) -> Result<usize, u8> {
         let work = &mut state.work;
         let gave = call!(
             leaf_digest,
@@ -94,7 +94,7 @@ pub mod bare {
             tickets.as_mut_ptr(),
             tickets.len()
         );
-        (gave.refusal == 0).then_some(gave.leaves)
+        super::refused_or_done(gave.refusal).map(|()| gave.leaves)
     }
 
     #[inline(always)]
@@ -123,6 +123,33 @@ pub mod bare {
     #[inline(always)]
     pub fn twin(state: &mut State, page: &[u8], i: usize) -> TwinPlace {
         call!(leaf_twin, state.work, state, page.as_ptr(), page.len(), i)
+    }
+
+    /// A part's length; the part goes into `out`, if it has room.
+    #[inline(always)]
+    pub fn part(state: &mut State, page: &[u8], i: usize, out: &mut [u8]) -> usize {
+        let (page, page_length) = (page.as_ptr(), page.len());
+        let (out, length) = (out.as_mut_ptr(), out.len());
+        call!(
+            leaf_part,
+            state.work,
+            state,
+            page,
+            page_length,
+            i,
+            out,
+            length
+        )
+    }
+
+    #[inline(always)]
+    pub fn is_in_scope(work: &Work, key: &Key) -> bool {
+        unsafe { super::leaf_is_in_scope(*work, key) != 0 }
+    }
+
+    #[inline(always)]
+    pub fn separator(work: &Work, out: &mut Key) {
+        unsafe { super::leaf_separator(*work, out) }
     }
 }
 
