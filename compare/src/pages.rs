@@ -107,7 +107,7 @@ pub fn node_of(pool: &PagePool, page: &[u8]) -> LeafNode {
     LeafNode { inner }
 }
 
-/// Compares an answer of ours with what is due.
+/// Compares an answer of ours with what is due, and counts it.
 fn same<T: PartialEq + std::fmt::Debug>(
     call: &'static str,
     page: &[u8],
@@ -116,10 +116,22 @@ fn same<T: PartialEq + std::fmt::Debug>(
     due: T,
     tally: &mut Tally,
 ) -> Result<(), Mismatch> {
+    agree(call, page, inputs, ours, due)?;
+    tally.agreed(call);
+    Ok(())
+}
+
+/// Compares an answer of ours with what is due.
+pub fn agree<T: PartialEq + std::fmt::Debug>(
+    call: &'static str,
+    page: &[u8],
+    inputs: &str,
+    ours: Result<T, Damage>,
+    due: T,
+) -> Result<(), Mismatch> {
     let lines = || vec![("page", hex::write(page)), ("inputs", inputs.to_string())];
     let ours = ours.map_err(|damage| Mismatch::damage(call, lines(), damage))?;
     if ours == due {
-        tally.agreed(call);
         return Ok(());
     }
     let mut lines = lines();

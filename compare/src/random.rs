@@ -6,8 +6,9 @@ use crate::lent::Damage;
 use crate::pages;
 use crate::rng::Rng;
 use crate::sequences;
-use std::collections::BTreeSet;
+use std::collections::BTreeMap;
 use std::fmt;
+use std::hint::black_box;
 use std::process::ExitCode;
 use std::time::{Duration, Instant};
 
@@ -47,8 +48,8 @@ pub struct Tally {
 struct Kind {
     name: &'static str,
     count: u64,
-    /// The refusals that were met, where the calls are refused ones.
-    refusals: BTreeSet<u8>,
+    /// How often each refusal was met, where the calls are refused ones.
+    refusals: BTreeMap<u8, u64>,
 }
 
 impl Tally {
@@ -76,12 +77,17 @@ impl Tally {
     pub fn refused(&mut self, kind: &'static str, number: u8) {
         let kind = self.kind(kind);
         kind.count += 1;
-        kind.refusals.insert(number);
+        *kind.refusals.entry(number).or_default() += 1;
     }
 
     #[cfg(test)]
-    pub fn refusals(&mut self, kind: &'static str) -> &BTreeSet<u8> {
-        &self.kind(kind).refusals
+    pub fn refusals(&mut self, kind: &'static str) -> Vec<u8> {
+        self.kind(kind).refusals.keys().copied().collect()
+    }
+
+    #[cfg(test)]
+    pub fn count(&mut self, kind: &'static str) -> u64 {
+        self.kind(kind).count
     }
 
     pub fn total(&self) -> u64 {
@@ -91,12 +97,12 @@ impl Tally {
 
 impl fmt::Display for Kind {
     fn fmt(&self, f: &mut fmt::Formatter) -> fmt::Result {
-        write!(f, "{}", self.name)?;
-        for (i, number) in self.refusals.iter().enumerate() {
-            let before = if i == 0 { " by" } else { "," };
-            write!(f, "{before} {number}")?;
+        write!(f, "{}: {}", self.name, self.count)?;
+        for (i, (number, count)) in self.refusals.iter().enumerate() {
+            let before = if i == 0 { "; by No." } else { "," };
+            write!(f, "{before} {number}: {count}")?;
         }
-        write!(f, ": {}", self.count)
+        Ok(())
     }
 }
 
@@ -116,8 +122,15 @@ pub fn run_sequences(calls: u64, seed: u64) -> ExitCode {
     })
 }
 
+/// The C library gives freed memory back to the system, and asks for it again, above a size that grows with the largest block freed so
+/// far. What is lent is copied for each call, so that more than half of a run would go into that.
+pub fn keep_freed_memory() {
+    drop(black_box(vec![0u8; 24 << 20]));
+}
+
 /// Runs the calls and says how many of each kind agreed, and which one didn't.
 pub fn counted(which: &str, calls: impl FnOnce(&mut Tally) -> Result<(), Mismatch>) -> ExitCode {
+    keep_freed_memory();
     let mut tally = Tally::default();
     let outcome = calls(&mut tally);
     for kind in &tally.kinds {

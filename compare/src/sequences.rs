@@ -1,13 +1,13 @@
 //! Made-up sequences of calls on a work: the plain functions beside the unchanged Rust on every accepted call, and calls that
 //! must be refused, whose number the sequence knows by itself; the library beside the plain functions on every call.
 
-mod changed;
+pub mod changed;
 mod claim;
-mod damaged;
+pub mod damaged;
 pub mod exhaustive;
 pub mod made;
-mod pair;
-mod refused;
+pub mod pair;
+pub mod refused;
 
 use crate::oracle::Key;
 use crate::pages::LONGEST_VALUE;
@@ -348,8 +348,7 @@ mod tests {
             ("cutoff removal, refused", &[7, 8, 9]),
             ("twin and part, refused", &[1, 2, 3, 4, 5, 6, 7, 8, 10]),
         ] {
-            let met: Vec<u8> = tally.refusals(name).iter().copied().collect();
-            assert_eq!(met, due, "{name}");
+            assert_eq!(tally.refusals(name), due, "{name}");
         }
     }
 }

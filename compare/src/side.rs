@@ -152,10 +152,14 @@ impl<C: Calls> Sequence<C> {
         list: usize,
         store: usize,
     ) -> Answered {
-        let mut new = unopened(list, store);
-        let before = new.clone();
+        self.open_over(unopened(list, store), base, cutoff)
+    }
+
+    /// An opening that is lent this work record, list and store, whatever they hold.
+    pub fn open_over(&mut self, held: State, base: Option<&Base>, cutoff: Option<Key>) -> Answered {
+        let mut new = held.clone();
         let reply = accepted(C::open(&mut new, base, cutoff))?;
-        let answer = settle(reply, &before, &new)?;
+        let answer = settle(reply, &held, &new)?;
         if answer == Answer::Accepted {
             self.state = new;
             self.page = base.map_or(Vec::new(), |base| base.page.clone());

@@ -42,7 +42,7 @@ impl Calls for LibraryCalls {
         work::remove_cutoff(state)
     }
 
-    /// The part goes into a buffer of just its length, and not into one byte less.
+    /// The part goes into a buffer of just its length or one byte more, and not into one byte less.
     fn twins(state: &State, page: &[u8], from: usize, most: usize) -> Result<Twins, Damage> {
         let reader = Reader::new(state, page);
         let mut places = Vec::new();
@@ -54,7 +54,8 @@ impl Calls for LibraryCalls {
                 Ok(record) => crate::plain::pending::part(record, &state.store, page),
                 Err(_) => &[],
             };
-            if reader.part(index, due.len())?.as_deref() != Some(due) {
+            let room = due.len() + index % 2;
+            if reader.part(index, room)?.as_deref() != Some(due) {
                 return Err(Damage(format!("the part of {index} isn't what twin names")));
             }
             if !due.is_empty() && reader.part(index, due.len() - 1)?.is_some() {

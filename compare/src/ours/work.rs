@@ -243,6 +243,15 @@ macro_rules! reading {
     }};
 }
 
+/// A flag among the arguments. It is set by any number but 0, so by a byte of the key beside it, which may be any.
+fn flag_of(set: bool, any: u8) -> u8 {
+    if set {
+        any.max(1)
+    } else {
+        0
+    }
+}
+
 fn refused_or_done(refusal: u8) -> Result<(), u8> {
     match refusal {
         0 => Ok(()),
@@ -273,6 +282,12 @@ impl<'a> LentBase<'a> {
         }
     }
 
+    /// The flags `based` and `cut`.
+    fn flags(&self, based: bool, cut: bool) -> (u8, u8) {
+        let [separator, cutoff] = self.keys;
+        (flag_of(based, separator[31]), flag_of(cut, cutoff[31]))
+    }
+
     fn kept(&self) -> Result<(), Damage> {
         self.lent_page.kept("page", self.page)?;
         self.lent_keys[0].kept("separator", &self.keys[0])?;
@@ -287,7 +302,7 @@ pub fn open(state: &mut State, base: Option<&Base>, cutoff: Option<Key>) -> Ran<
     let new = LentBase::new(base, cutoff);
     let (page, length) = (new.lent_page.ptr(), new.page.len());
     let [separator, end] = [0, 1].map(|i| new.lent_keys[i].ptr().cast());
-    let (based, cut) = (base.is_some().into(), cutoff.is_some().into());
+    let (based, cut) = new.flags(base.is_some(), cutoff.is_some());
     let refusal = changing!(leaf_open, lent, based, page, length, separator, cut, end);
     new.kept()?;
     *state = lent.left(refusal)?;
@@ -299,7 +314,7 @@ pub fn ingest(state: &mut State, page: &[u8], key: &Key, change: &Change) -> Ran
     let (lent_page, lent_key) = (Lent::new(page), Lent::new(key));
     // a deletion's value and flag are ignored
     let (put, flag, value): (u8, u8, &[u8]) = match change {
-        Change::Put { value, flag } => (1, (*flag).into(), value),
+        Change::Put { value, flag } => (flag_of(true, key[31]), flag_of(*flag, key[30]), value),
         Change::Delete => (0, 1, &[0x77; 2000]),
     };
     let lent_value = Lent::new(value);
@@ -394,7 +409,10 @@ pub fn next_base(state: &mut State, base: &Base, cutoff: Option<Key>) -> Ran<()>
     let new = LentBase::new(Some(base), cutoff);
     let (page, length) = (new.lent_page.ptr(), new.page.len());
     let [separator, end] = [0, 1].map(|i| new.lent_keys[i].ptr().cast());
-    let (work, cut) = (lent.work.ptr_mut().cast(), cutoff.is_some().into());
+    let (work, cut) = (
+        lent.work.ptr_mut().cast(),
+        new.flags(true, cutoff.is_some()).1,
+    );
     let refusal = reading!(
         leaf_next_base,
         work,

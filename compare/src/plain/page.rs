@@ -1,6 +1,6 @@
 //! A page's records, the page calls, and a page laid out from records.
 
-use super::verdict::{unless, Verdict, EQUAL_KEYS, NO_SUCH_INDEX};
+use super::verdict::{unless, Verdict, EQUAL_KEYS, NO_SUCH_INDEX, SHORT_AREA};
 use crate::keys::plain_separate;
 use crate::oracle::io::PAGE_SIZE;
 use crate::oracle::Key;
@@ -106,6 +106,18 @@ pub fn get(page: &[u8], key: &Key) -> Result<Option<(usize, usize, bool)>, u8> {
     good(page)?;
     let found = (0..count(page)).find(|&i| key_of(page, i) == *key);
     Ok(found.map(|i| cell(page, i)))
+}
+
+/// The page of the records from..to in the first 4,096 bytes of `out`. Where it is built by cells and where by a chunk, `mid` says; the page
+/// is the same.
+pub fn rebuild(page: &[u8], range: [usize; 3], out: &mut [u8]) -> Verdict {
+    good(page)?;
+    let [from, mid, to] = range;
+    let there = from <= mid && mid <= to && to <= count(page);
+    unless(there, NO_SUCH_INDEX)?;
+    unless(out.len() >= PAGE_SIZE, SHORT_AREA)?;
+    out[..PAGE_SIZE].copy_from_slice(&build(&records(page)[from..to]));
+    Ok(())
 }
 
 pub fn separate(a: &Key, b: &Key) -> Result<Key, u8> {

@@ -52,9 +52,7 @@ const DAMAGES: [Damage; 21] = [
 pub fn run(rng: &mut Rng, plain: &Plain, tally: &mut Tally) -> Result<(), Mismatch> {
     for _ in 0..6 {
         let mut damaged = plain.clone();
-        let damage = DAMAGES[rng.between(0, DAMAGES.len() - 1)];
-        if let Some(number) = damage(rng, &mut damaged) {
-            let (call, due) = call(rng, plain, &damaged, number);
+        if let Some((call, due)) = call_on_damaged(rng, plain, &mut damaged) {
             Pair::run_on_damaged(&damaged, &call, Some(due), tally)?;
         }
         let mut changed = plain.clone();
@@ -63,6 +61,13 @@ pub fn run(rng: &mut Rng, plain: &Plain, tally: &mut Tally) -> Result<(), Mismat
         Pair::run_on_damaged(&changed, &call, None, tally)?;
     }
     Ok(())
+}
+
+/// Damages a copy of the work; a call on it, and its refusal. None where the work has nothing that could be damaged so.
+pub fn call_on_damaged(rng: &mut Rng, plain: &Plain, damaged: &mut Plain) -> Option<(Call, u8)> {
+    let damage = DAMAGES[rng.between(0, DAMAGES.len() - 1)];
+    let number = damage(rng, damaged)?;
+    Some(call(rng, plain, damaged, number))
 }
 
 /// A call that the sound work might accept, and its refusal on the damaged one. Next base and cutoff removal are not lent the

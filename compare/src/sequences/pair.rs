@@ -42,7 +42,7 @@ fn names(call: &Call) -> [&'static str; 2] {
 }
 
 /// The names of the library's calls.
-fn library_names(call: &Call) -> [&'static str; 2] {
+pub fn library_names(call: &Call) -> [&'static str; 2] {
     match call {
         Call::Open { .. } => ["opening", "opening, refused"],
         Call::Ingest { .. } => ["ingest", "ingest, refused"],
@@ -152,28 +152,45 @@ impl Pair {
         Ok(answer)
     }
 
-    /// A call on a damaged work. Refused, it must have changed nothing, and where a number is due it must be that one.
-    /// Accepted, the work was sound, and the Rust with the same fields must agree.
+    /// A call on a damaged work, counted for the plain functions too.
     pub fn run_on_damaged(
         damaged: &Plain,
         call: &Call,
         due: Due,
         tally: &mut Tally,
     ) -> Result<(), Mismatch> {
+        match Pair::answer_on_damaged(damaged, call, due, tally)? {
+            Answer::Refused(n) => tally.refused("plain call on a damaged work, refused", n),
+            _ => tally.agreed("plain call on a changed work that is still sound"),
+        }
+        Ok(())
+    }
+
+    /// A call on a work that may be unsound. Refused, it must have changed nothing, and where a number is due it must be that one.
+    /// Accepted, the work was sound, and the Rust with the same fields must agree.
+    pub fn answer_on_damaged(
+        damaged: &Plain,
+        call: &Call,
+        due: Due,
+        tally: &mut Tally,
+    ) -> Result<Answer, Mismatch> {
         let mut pair = Pair::new();
-        pair.plain = damaged.clone();
+        pair.plain = match call.instead() {
+            Some(instead) => damaged.lent(instead),
+            None => damaged.clone(),
+        };
+        let rust = pair.plain.clone();
         let answer = pair.answer(call, tally)?;
         if let Some(number) = due {
             pair.same(call, "answer", &answer, &Answer::Refused(number))?;
         }
-        if let Answer::Refused(number) = answer {
-            tally.refused("plain call on a damaged work, refused", number);
-            return Ok(());
+        // what reads the work record alone refuses nothing, so that nothing is known of the work
+        let of_record = matches!(call, Call::Scope { .. } | Call::Separator);
+        if !of_record && !matches!(answer, Answer::Refused(_)) {
+            pair.rust = Updater::of(&rust.state, &rust.page);
+            pair.compare(call, &answer)?;
         }
-        pair.rust = Updater::of(&damaged.state, &damaged.page);
-        pair.compare(call, &answer)?;
-        tally.agreed("plain call on a changed work that is still sound");
-        Ok(())
+        Ok(answer)
     }
 
     /// The answer and the work after an accepted call. A twin call changes nothing; the Rust has none.

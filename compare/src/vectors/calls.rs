@@ -101,6 +101,18 @@ impl Call {
         }
     }
 
+    /// What the call is lent in place of the sequence's own, where it can be.
+    pub fn instead(&self) -> Option<&Instead> {
+        match self {
+            Call::Ingest { instead, .. }
+            | Call::Digest { instead, .. }
+            | Call::Next { instead, .. }
+            | Call::Uncut { instead }
+            | Call::Twin { instead, .. } => Some(instead),
+            _ => None,
+        }
+    }
+
     /// Reads a `>` line without its mark.
     pub fn read(line: &str) -> Result<Call, String> {
         let (name, mut fields) = Fields::split(line);
