@@ -1,14 +1,15 @@
 //! Runs nomt's unchanged leaf updater and the proved static library in one process and compares them.
 //!
 //! `oracle` is the Rust, `ours` the library, `plain` document 01 written out as a second opinion. `random` makes up
-//! calls, `bad` lends spoilt and random bytes, `vectors` replays recorded ones, `bench` times both sides, `record` writes the Rust's answers to a file,
-//! `stack` measures the library's stack.
+//! calls, `bad` lends spoilt and random bytes, `card` keeps a row of leaves, `vectors` replays recorded calls, `bench`
+//! times both sides, `record` writes the Rust's answers to a file, `stack` measures the library's stack.
 //!
 //! Where a further call goes: its declaration in include/, its guarded wrapper in `ours`, its reference in `oracle`, its
 //! random inputs in a module like `keys` (listed in `random::SUBJECTS`), its line in `side` and in both sides.
 
 mod bad;
 mod bench;
+mod card;
 mod hex;
 mod keys;
 #[path = "../../include/leaf_updater.rs"]
@@ -38,6 +39,8 @@ const USAGE: &str = "\
 usage: compare random SECONDS SEED   made-up calls to both sides, for so many seconds
        compare sequences CALLS SEED  made-up sequences of calls on a work, for so many calls
        compare bad CALLS SEED        calls on spoilt and random works, lists, stores and pages
+       compare card LEAVES CHANGES SEED
+                                     so many changes on a row of so many leaves
        compare exhaustive CALLS      every sequence of so many calls over a few keys and sizes
        compare vectors DIR           the recorded call sequences DIR/*.txt
        compare plain DIR             the same on the plain functions in place of the library
@@ -59,6 +62,10 @@ fn main() -> ExitCode {
         },
         ["bad", calls, seed] => match (calls.parse(), seed.parse()) {
             (Ok(calls), Ok(seed)) => bad::run(calls, seed),
+            _ => usage(),
+        },
+        ["card", leaves, changes, seed] => match (leaves.parse(), changes.parse(), seed.parse()) {
+            (Ok(leaves), Ok(changes), Ok(seed)) => card::run(leaves, changes, seed),
             _ => usage(),
         },
         ["exhaustive", calls] => match calls.parse() {

@@ -12,6 +12,7 @@ use crate::pages::{clear_gap, node_of};
 use crate::plain::work::{State, INSERT};
 use crate::vectors::answers::{Answer, Entry, Holder, Pending};
 use crate::vectors::calls::{Base, Call, Change};
+use crate::vectors::{Outcome, Side};
 use std::hint::black_box;
 use std::sync::Arc;
 
@@ -34,6 +35,12 @@ impl<F: FnMut(Key, LeafNode, Option<Key>)> HandleNewLeaf for Each<F> {
     ) -> std::io::Result<()> {
         (self.0)(separator, node, cutoff);
         Ok(())
+    }
+}
+
+impl Side for Updater {
+    fn run(&mut self, call: &Call) -> Outcome {
+        Outcome::Answered(self.answer(call))
     }
 }
 

@@ -65,9 +65,20 @@ pub struct Base {
     pub separator: Key,
 }
 
+#[derive(Clone)]
 pub enum Change {
     Put { value: Vec<u8>, flag: bool },
     Delete,
+}
+
+impl Change {
+    /// The length of the new value.
+    pub fn length(&self) -> usize {
+        match self {
+            Change::Put { value, .. } => value.len(),
+            Change::Delete => 0,
+        }
+    }
 }
 
 /// What this call is lent in place of the sequence's page, list or store, and which byte of the store is
