@@ -1,6 +1,7 @@
 # make run    proves, builds and runs `trials`, which prints document 01's bench trials
 # make test   everything that must pass; it stops at the first failing step
 # make bench  times of the calls, as ratios to the optimised Rust
+# make growth how times grow with what is lent, recorded in docs/growth.txt and drawn in docs/growth.svg
 
 SECONDS_OF_RANDOM ?= 10
 SEED ?= 1
@@ -8,7 +9,7 @@ SEED ?= 1
 # a step: its name and its command; says how long it took
 step = @start=$$(date +%s) && echo "== $(1)" && $(2) && echo "== $(1): $$(($$(date +%s) - start)) s"
 
-.PHONY: run test bench layout claims library header symbols examples compare
+.PHONY: run test bench growth layout claims library header symbols examples compare
 
 run:
 	@mkdir -p build
@@ -44,3 +45,10 @@ compare: library
 
 bench: library
 	@tools/with-nomt tools/compare bench
+
+# both files are replaced only when there are rows and they were drawn
+growth: library
+	@mkdir -p build
+	@tools/with-nomt tools/compare growth > build/growth.txt
+	@tools/plot-growth build/growth.txt > build/growth.svg
+	@mv build/growth.txt build/growth.svg docs/

@@ -1,5 +1,7 @@
-//! `compare bench`: how long a call takes on either side, on the same inputs, by the same driver, in one run.
+//! `compare bench`: how long a call takes on either side, on the same inputs, by the same driver, in one run. `compare growth`: how the time
+//! grows with what is lent.
 
+mod growth;
 mod keys;
 mod pages;
 mod works;
@@ -13,12 +15,23 @@ const SEED: u64 = 1;
 const ROUNDS: usize = 51;
 
 pub fn run() -> ExitCode {
+    timed(|| {
+        println!("median of {ROUNDS} rounds, the two sides in turn; lent buffers are not cleared between calls");
+        keys::run() && pages::run() && works::run()
+    })
+}
+
+pub fn run_growth() -> ExitCode {
+    timed(growth::run)
+}
+
+/// Timings, in a build for them. They mean nothing if the sides don't agree.
+fn timed(agreed: impl FnOnce() -> bool) -> ExitCode {
     if cfg!(debug_assertions) {
         eprintln!("this build has the Rust's checks on; build with --profile timing");
         return ExitCode::from(2);
     }
-    println!("median of {ROUNDS} rounds, the two sides in turn; lent buffers are not cleared between calls");
-    if keys::run() && pages::run() && works::run() {
+    if agreed() {
         ExitCode::SUCCESS
     } else {
         println!("the sides differ; times would mean nothing");
@@ -56,9 +69,25 @@ fn report_used_up<R, O>(
     ours: UsedUp<impl Fn() -> O, impl Fn(&mut O)>,
     check: Option<impl Fn(&mut O)>,
 ) {
+    let [rust, ours, checked] = medians(&rust, &ours, check.as_ref());
+    print_both(call, inputs, rust, ours);
+    if check.is_some() {
+        let (share, beside) = (100.0 * checked / ours, (ours - checked) / rust);
+        println!(
+            "{:<14} {:<44} the check {checked:>8.1} ns, {share:.0} %   beside it, ours/Rust {beside:.2}",
+            "", ""
+        );
+    }
+}
+
+/// The median times of both sides, and of the check, where there is one.
+fn medians<R, O>(
+    rust: &UsedUp<impl Fn() -> R, impl Fn(&mut R)>,
+    ours: &UsedUp<impl Fn() -> O, impl Fn(&mut O)>,
+    check: Option<&impl Fn(&mut O)>,
+) -> [f64; 3] {
     let mut times = [Vec::new(), Vec::new(), Vec::new()];
     for round in 0..=ROUNDS {
-        let check = check.as_ref();
         let round_times = [
             time_used_up(rust.count, &rust.make, &rust.run),
             time_used_up(ours.count, &ours.make, &ours.run),
@@ -68,15 +97,7 @@ fn report_used_up<R, O>(
             (times.iter_mut().zip(round_times)).for_each(|(all, time)| all.push(time));
         }
     }
-    let [rust, ours, checked] = times.map(median);
-    print_both(call, inputs, rust, ours);
-    if check.is_some() {
-        let (share, beside) = (100.0 * checked / ours, (ours - checked) / rust);
-        println!(
-            "{:<14} {:<44} the check {checked:>8.1} ns, {share:.0} %   beside it, ours/Rust {beside:.2}",
-            "", ""
-        );
-    }
+    times.map(median)
 }
 
 fn time_used_up<T>(calls: usize, make: &impl Fn() -> T, run: &impl Fn(&mut T)) -> f64 {

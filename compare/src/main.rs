@@ -46,6 +46,7 @@ usage: compare random SECONDS SEED   made-up calls to both sides, for so many se
        compare plain DIR             the same on the plain functions in place of the library
        compare stack SECONDS SEED    stack that each call uses, beside what the header says
        compare bench                 times of both sides (build with --profile timing)
+       compare growth                how times grow with what is lent (the same)
        compare record DIR            write the Rust's answers to DIR";
 
 fn main() -> ExitCode {
@@ -81,6 +82,7 @@ fn main() -> ExitCode {
             _ => usage(),
         },
         ["bench"] => bench::run(),
+        ["growth"] => bench::run_growth(),
         ["record", dir] => record::run(Path::new(dir)),
         _ => usage(),
     }

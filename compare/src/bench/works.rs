@@ -7,7 +7,7 @@ use crate::oracle::Key;
 use crate::ours::work::bare;
 use crate::pages::{made, LONGEST_VALUE};
 use crate::plain::calls::{ingest, open};
-use crate::plain::digest::digest;
+use crate::plain::digest::{asked, digest, TICKET};
 use crate::plain::page::{build, Record};
 use crate::plain::verdict::SHORT_AREA;
 use crate::plain::work::{State, WAITING};
@@ -20,10 +20,10 @@ use std::hint::black_box;
 const CALLS: usize = 256;
 /// Works that are made before a call on each is timed: of ours few, so that most stay in the cache, of the Rust's, whose calls may be
 /// short, more.
-const WORKS: usize = 16;
+pub const WORKS: usize = 16;
 const RUST_WORKS: usize = 256;
 const RECORDS: usize = 100;
-const VALUE: usize = 4;
+pub const VALUE: usize = 4;
 const CHANGES: usize = 200;
 /// Rounds of which the least times are taken.
 const STEP_ROUNDS: usize = 1001;
@@ -31,7 +31,7 @@ const STEP_ROUNDS: usize = 1001;
 const SMALL: usize = 30;
 /// Lists are the shortest, one that takes all the changes, and the longest; stores the shortest.
 const LISTS: [usize; 3] = [121, 512, 4096];
-const STORE: usize = 4096;
+pub const STORE: usize = 4096;
 const CUTOFF: Key = [0x80; 32];
 const NEXT_CUTOFF: Key = [0xff; 32];
 
@@ -72,7 +72,7 @@ fn small_base(byte: u8) -> Base {
 }
 
 /// A work with so many new values.
-fn changed(base: &Base, keys: &[Key], list: usize, store: usize) -> Option<State> {
+pub fn changed(base: &Base, keys: &[Key], list: usize, store: usize) -> Option<State> {
     changed_under(base, None, keys, list, store)
 }
 
@@ -211,8 +211,14 @@ fn bench_digests(base: &Base, small: &Base, keys: &[Key]) -> bool {
         })
 }
 
+/// Area and tickets, long enough for whatever list and store hold.
+pub fn area_of(state: &State) -> [Vec<u8>; 2] {
+    let pages = asked(34 * state.list.len() + state.store.len());
+    [vec![0; pages * 4096], vec![0; pages * TICKET]]
+}
+
 fn bench_digest(inputs: &str, base: &Base, state: &State) -> bool {
-    let mut area = [vec![0; 8 * 4096], vec![0; 8 * 65]];
+    let mut area = area_of(state);
     let [pages, tickets] = &mut area;
     let ours = bare::digest(&mut state.clone(), &base.page, pages, tickets);
     let rust = Updater::of(state, &base.page).digest_bare();
@@ -401,7 +407,7 @@ fn bench_separator(small: &Base) -> bool {
     true
 }
 
-fn put_call(key: Key, value: &[u8]) -> Call {
+pub fn put_call(key: Key, value: &[u8]) -> Call {
     Call::Ingest {
         key,
         change: Change::Put {
