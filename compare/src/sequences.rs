@@ -268,11 +268,11 @@ impl Sequence {
         let cut = rng.between(0, 4) > 0;
         let mut made = made::base(rng, &self.keys, from, cut);
         while let due @ Some(_) = self.due_of_base(&made) {
-            self.pair.run(next_call(made), due, tally)?;
+            self.pair.run(made.next_call(), due, tally)?;
             made = made::base(rng, &self.keys, from, cut);
         }
         self.take_bounds(from, &made);
-        self.pair.run(next_call(made), None, tally)
+        self.pair.run(made.next_call(), None, tally)
     }
 
     fn due_of_base(&self, made: &MadeBase) -> Due {
@@ -296,14 +296,6 @@ impl Sequence {
             self.pair.run(call, Some(due), tally)?;
         }
         damaged::run(rng, &self.pair.plain, tally)
-    }
-}
-
-fn next_call(made: MadeBase) -> Call {
-    Call::Next {
-        base: made.base,
-        cutoff: made.cutoff,
-        instead: Instead::default(),
     }
 }
 

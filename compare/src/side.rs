@@ -26,12 +26,17 @@ pub type Ran<T> = Result<Result<T, u8>, Damage>;
 /// The places that twin calls named, and the refusal that ended them.
 pub type Twins = (Vec<Pending>, Option<u8>);
 
+/// Where the leaves of a digest go.
+pub struct Out<'a> {
+    pub area: &'a mut [u8],
+    pub tickets: &'a mut [u8],
+}
+
 /// The calls of a side. Each changes what it is lent.
 pub trait Calls {
     fn open(state: &mut State, base: Option<&Base>, cutoff: Option<Key>) -> Ran<()>;
     fn ingest(state: &mut State, page: &[u8], key: &Key, change: &Change) -> Ran<Report>;
-    fn digest(state: &mut State, page: &[u8], area: &mut [u8], tickets: &mut [u8])
-        -> Ran<Digested>;
+    fn digest(state: &mut State, page: &[u8], out: Out) -> Ran<Digested>;
     fn next_base(state: &mut State, base: &Base, cutoff: Option<Key>) -> Ran<()>;
     fn remove_cutoff(state: &mut State) -> Ran<()>;
     /// The twin call from an index on, at most so many times or up to a refusal; the part call with the same index is held against each.
@@ -291,7 +296,11 @@ fn digest_once<C: Calls>(
 ) -> Result<(Answer, State), Damage> {
     let (mut area, mut tickets) = (vec![HELD; area], vec![HELD; tickets]);
     let mut state = before.state.clone();
-    let reply = C::digest(&mut state, &before.page, &mut area, &mut tickets)?;
+    let out = Out {
+        area: &mut area,
+        tickets: &mut tickets,
+    };
+    let reply = C::digest(&mut state, &before.page, out)?;
     let answer = match reply {
         Err(number) => {
             only_held(&area, 0, "area")?;

@@ -120,7 +120,7 @@ impl Reached {
     fn next_base(&mut self, rng: &mut Rng) {
         let (made, from) = self.base_behind(rng);
         let limit = made.limit;
-        if self.accepts(&next_call(made)) {
+        if self.accepts(&made.next_call()) {
             (self.number, self.limit) = (from, limit);
         }
     }
@@ -134,7 +134,7 @@ impl Reached {
 
     /// A next base that fits the work if it is its turn and there is room.
     pub fn next(&self, rng: &mut Rng) -> Call {
-        next_call(self.base_behind(rng).0)
+        self.base_behind(rng).0.next_call()
     }
 
     fn remove_cutoff(&mut self) {
@@ -149,13 +149,5 @@ fn length(rng: &mut Rng, lengths: &[usize], longest: usize) -> usize {
     match rng.between(1, LONGEST_IN) {
         1 => longest,
         _ => lengths[rng.between(0, lengths.len() - 1)],
-    }
-}
-
-fn next_call(made: MadeBase) -> Call {
-    Call::Next {
-        base: made.base,
-        cutoff: made.cutoff,
-        instead: Instead::default(),
     }
 }

@@ -8,7 +8,7 @@ use crate::oracle::Key;
 use crate::plain::calls::Report;
 use crate::plain::digest::Digested;
 use crate::plain::work::{State, Work};
-use crate::side::{Answered, Calls, Ran, Sequence, Twins};
+use crate::side::{Answered, Calls, Out, Ran, Sequence, Twins};
 use crate::vectors::answers::{Answer, Holder, Pending};
 use crate::vectors::calls::{Base, Call, Change};
 
@@ -25,13 +25,8 @@ impl Calls for LibraryCalls {
         work::ingest(state, page, key, change)
     }
 
-    fn digest(
-        state: &mut State,
-        page: &[u8],
-        area: &mut [u8],
-        tickets: &mut [u8],
-    ) -> Ran<Digested> {
-        work::digest(state, page, area, tickets)
+    fn digest(state: &mut State, page: &[u8], out: Out) -> Ran<Digested> {
+        work::digest(state, page, out.area, out.tickets)
     }
 
     fn next_base(state: &mut State, base: &Base, cutoff: Option<Key>) -> Ran<()> {

@@ -7,7 +7,7 @@ use super::pending;
 use super::work::{State, Work};
 use crate::lent::Damage;
 use crate::oracle::Key;
-use crate::side::{Answered, Calls, Ran, Sequence, Twins};
+use crate::side::{Answered, Calls, Out, Ran, Sequence, Twins};
 use crate::vectors::answers::Answer;
 use crate::vectors::calls::{Base, Call, Change};
 
@@ -24,13 +24,8 @@ impl Calls for PlainCalls {
         Ok(ingest(state, page, key, change))
     }
 
-    fn digest(
-        state: &mut State,
-        page: &[u8],
-        area: &mut [u8],
-        tickets: &mut [u8],
-    ) -> Ran<Digested> {
-        Ok(digest(state, page, area, tickets))
+    fn digest(state: &mut State, page: &[u8], out: Out) -> Ran<Digested> {
+        Ok(digest(state, page, out.area, out.tickets))
     }
 
     fn next_base(state: &mut State, base: &Base, cutoff: Option<Key>) -> Ran<()> {

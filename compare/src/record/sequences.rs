@@ -31,11 +31,10 @@ use crate::plain::side::Plain;
 use crate::rng::Rng;
 use crate::sequences::made::Keys;
 use crate::vectors::answers::Answer;
-use crate::vectors::calls::{Base, Call, Change};
+use crate::vectors::calls::{Call, Change};
 
 pub const RECORD: usize = BODY + 4096;
 
-const LIST: usize = 121;
 const STORE: usize = 9000;
 
 const PAGE: u8 = 0;
@@ -237,14 +236,5 @@ impl Record {
             self.put(SECOND, &[1]);
             self.put(CUTOFF, cutoff);
         }
-    }
-}
-
-fn opening(base: Option<Base>, cutoff: Option<Key>) -> Call {
-    Call::Open {
-        base,
-        cutoff,
-        list: LIST,
-        store: STORE,
     }
 }

@@ -1,6 +1,7 @@
 //! `compare exhaustive CALLS`: every sequence of up to so many calls over four keys and six value sizes, from five openings.
 //! A refused call changes nothing, so no sequence goes on behind one: what would follow is a shorter sequence.
 
+use super::made::opening;
 use super::pair::Pair;
 use crate::oracle::Key;
 use crate::plain::digest::{asked, TICKET};
@@ -12,7 +13,6 @@ use crate::vectors::calls::{Base, Call, Change, Instead};
 const SIZES: [usize; 6] = [0, 989, 990, 1330, 1331, 1332];
 const FIRST_BYTES: [u8; 4] = [0x10, 0x13, 0x80, 0xe0];
 const CUTOFF: u8 = 0xf0;
-const LIST: usize = 121;
 const STORE: usize = 12000;
 
 fn key(first: u8) -> Key {
@@ -42,24 +42,15 @@ fn go_on(pair: &Pair, calls: usize, tally: &mut Tally) -> Result<(), Mismatch> {
 
 /// No base; with and without a cutoff an empty base, and one with two flagged records.
 fn openings() -> Vec<Call> {
-    let mut openings = vec![opening(None, None)];
+    let mut openings = vec![opening(None, None, STORE)];
     for records in [vec![], FIRST_BYTES[1..3].iter().map(record).collect()] {
         let page = build(&records);
         for cutoff in [None, Some(key(CUTOFF))] {
             let (page, separator) = (page.clone(), [0; 32]);
-            openings.push(opening(Some(Base { page, separator }), cutoff));
+            openings.push(opening(Some(Base { page, separator }), cutoff, STORE));
         }
     }
     openings
-}
-
-fn opening(base: Option<Base>, cutoff: Option<Key>) -> Call {
-    Call::Open {
-        base,
-        cutoff,
-        list: LIST,
-        store: STORE,
-    }
 }
 
 fn record(first: &u8) -> Record {

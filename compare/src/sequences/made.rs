@@ -4,7 +4,7 @@ use crate::oracle::Key;
 use crate::pages::made::{self, Filling};
 use crate::pages::LONGEST_VALUE;
 use crate::rng::Rng;
-use crate::vectors::calls::{Base, Change};
+use crate::vectors::calls::{Base, Call, Change, Instead};
 
 /// Bodies on both sides of the digest's limits.
 pub const EDGES: [usize; 8] = [2046, 2047, 2048, 4094, 4095, 4096, 7369, 7370];
@@ -49,6 +49,26 @@ pub struct MadeBase {
     /// The first number behind its records, and that of its cutoff, or of a far key where it has none.
     pub behind: u64,
     pub limit: u64,
+}
+
+impl MadeBase {
+    pub fn next_call(self) -> Call {
+        Call::Next {
+            base: self.base,
+            cutoff: self.cutoff,
+            instead: Instead::default(),
+        }
+    }
+}
+
+/// An opening with the shortest list.
+pub fn opening(base: Option<Base>, cutoff: Option<Key>, store: usize) -> Call {
+    Call::Open {
+        base,
+        cutoff,
+        list: 121,
+        store,
+    }
 }
 
 /// Small bases are the most frequent: they are merged several times in a row.

@@ -1,7 +1,7 @@
 //! The recorded sequences: document 01's bench trials of a digest, merges in a row, a cutoff removal, and among them calls that must be
 //! refused. Keys are named by numbers that rise with them.
 
-use super::{opening, Recorder};
+use super::{Recorder, STORE};
 use crate::oracle::io::PAGE_SIZE;
 use crate::pages::made::bytes;
 use crate::pages::pointer;
@@ -10,7 +10,7 @@ use crate::plain::page::{build, Record};
 use crate::plain::verdict::{
     LIST_FULL, LONG_VALUE, OUT_OF_BOUNDS, OUT_OF_TURN, PAST_CUTOFF, SHORT_AREA, STORE_FULL, TOO_LOW,
 };
-use crate::sequences::made::{self, Keys};
+use crate::sequences::made::{self, opening, Keys};
 use crate::vectors::calls::{Base, Call, Change, Instead};
 
 /// What the largest digest here asks for.
@@ -107,7 +107,7 @@ fn empty_base_with_a_cutoff(to: &mut Recorder) {
 /// its deletion isn't reported.
 fn several_merges_in_a_row(to: &mut Recorder) {
     let astray = to.page(&[(4, 1, false), (3, 1, false)]);
-    to.refused(opening(Some(to.base(&astray, 2)), None), KEYS_ASTRAY);
+    to.refused(opening(Some(to.base(&astray, 2)), None, STORE), KEYS_ASTRAY);
     let page = to.page(&[(2, 30, false)]);
     to.open(&page, 2, Some(20));
     to.put(3, 300);
@@ -130,7 +130,7 @@ fn several_merges_in_a_row(to: &mut Recorder) {
 fn cutoff_removed(to: &mut Recorder) {
     let page = to.page(&[(5, 100, true), (6, 0, false)]);
     to.refused(
-        opening(Some(to.base(&page, 5)), Some(to.keys.key(5))),
+        opening(Some(to.base(&page, 5)), Some(to.keys.key(5)), STORE),
         OUT_OF_BOUNDS,
     );
     to.open(&page, 5, Some(30));
@@ -198,13 +198,13 @@ impl Recorder {
     }
 
     fn open_bare(&mut self) {
-        self.accepted(opening(None, None));
+        self.accepted(opening(None, None, STORE));
     }
 
     fn open(&mut self, page: &[u8], separator: u64, cutoff: Option<u64>) {
         let base = self.base(page, separator);
         let cutoff = cutoff.map(|number| self.keys.key(number));
-        self.accepted(opening(Some(base), cutoff));
+        self.accepted(opening(Some(base), cutoff, STORE));
     }
 
     fn next(&self, page: &[u8], separator: u64, cutoff: Option<u64>) -> Call {
