@@ -37,11 +37,13 @@ pub fn run(leaves: usize, changes: u64, seed: u64) -> ExitCode {
         changes,
         batches,
         works,
-        merges,
+        next_bases,
+        merge_requests,
         removals,
         lookups,
     } = card.counts;
-    println!("seed {seed}: {batches} batches, {works} works, {merges} next bases, {removals} cutoff removals, {seconds} s");
+    print!("seed {seed}: {batches} batches, {works} works, {next_bases} next bases, ");
+    println!("{merge_requests} merge requests, {removals} cutoff removals, {seconds} s");
     let (leaves, records) = (card.ours.len(), card.records.len());
     print!("{changes} changes, {leaves} leaves, {records} records, {lookups} lookups: ");
     match outcome {
@@ -69,9 +71,19 @@ struct Counts {
     changes: u64,
     batches: u64,
     works: u64,
-    merges: u64,
+    next_bases: u64,
+    merge_requests: u64,
     removals: u64,
     lookups: u64,
+}
+
+impl Counts {
+    fn add(&mut self, made: &Made) {
+        self.works += 1;
+        self.next_bases += made.next_bases;
+        self.merge_requests += made.merge_requests;
+        self.removals += made.removals;
+    }
 }
 
 impl Card {
@@ -103,9 +115,7 @@ impl Card {
             let ours = Worker::new(Library::default(), &self.ours, high);
             let ours = ours.run(changes).map_err(|why| format!("ours, {why}"))?;
             same_made(&rust, &ours)?;
-            self.counts.works += 1;
-            self.counts.merges += ours.merges;
-            self.counts.removals += ours.removals;
+            self.counts.add(&ours);
             self.rust.apply(rust)?;
             self.ours.apply(ours)?;
         }
@@ -115,7 +125,8 @@ impl Card {
         for (key, change) in batch.changes() {
             self.record(*key, change);
         }
-        self.look_up_all(batch)
+        self.look_up_all()?;
+        self.look_up_deleted(batch)
     }
 
     fn record(&mut self, key: Key, change: &Change) {
@@ -127,8 +138,8 @@ impl Card {
         }
     }
 
-    /// Every record is found by separator and `leaf_page_get`, the leaves have no others, and what the batch deleted is absent.
-    fn look_up_all(&mut self, batch: &Batch) -> Checked<()> {
+    /// Every record is found by separator and `leaf_page_get`, and the leaves have no others.
+    fn look_up_all(&mut self) -> Checked<()> {
         let mut held = 0;
         for (separator, page) in self.ours.leaves() {
             let lent = LentPage::new(page);
@@ -141,12 +152,14 @@ impl Card {
             }
             held += crate::pages::count(page);
         }
-        if held != self.records.len() {
-            return Err(format!(
-                "{held} records in the leaves, {} due",
-                self.records.len()
-            ));
+        match self.records.len() {
+            due if due == held => Ok(()),
+            due => Err(format!("{held} records in the leaves, {due} due")),
         }
+    }
+
+    /// What the batch deleted is absent.
+    fn look_up_deleted(&mut self, batch: &Batch) -> Checked<()> {
         for (key, change) in batch.changes() {
             if let (Change::Delete, Some((_, page))) = (change, self.ours.leaf_of(key)) {
                 let reply = LentPage::new(page).get(key).map_err(|damage| damage.0)?;
@@ -168,7 +181,7 @@ fn same_made(rust: &Made, ours: &Made) -> Checked<()> {
         _ if rust.tickets != ours.tickets => "tickets",
         _ if rust.leaves != ours.leaves => "pages",
         _ if rust.dropped != ours.dropped => "dropped overflow cells",
-        _ => "leaves taken",
+        _ => "leaves taken or merge requests",
     };
     Err(format!("{differ} of a worker differ"))
 }
@@ -195,8 +208,10 @@ mod tests {
         let mut card = Card::default();
         assert_eq!(card.fill(60, 15_000, 1), Ok(()));
         let Counts {
-            merges, removals, ..
+            merge_requests,
+            removals,
+            ..
         } = card.counts;
-        assert!(card.ours.len() > 30 && merges > 100 && removals > 3);
+        assert!(card.ours.len() > 30 && merge_requests > 100 && removals > 3);
     }
 }

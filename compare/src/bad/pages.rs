@@ -1,6 +1,8 @@
 //! The calls on a page alone: good pages, nearly good ones and random bytes, with arguments around their limits.
 
+use crate::hex;
 use crate::leaf_updater::{LeafKey, LeafSize};
+use crate::lent::Damage;
 use crate::ours::pages::{LeafValue, LentPage};
 use crate::pages::made::{self, above, below, bytes};
 use crate::pages::{agree, count, MOST_RECORDS};
@@ -80,7 +82,7 @@ impl OnPage<'_> {
         &mut self,
         [accepted, refused]: [&'static str; 2],
         inputs: &str,
-        ours: Result<T, crate::lent::Damage>,
+        ours: Result<T, Damage>,
         due: T,
         refusal: u8,
     ) -> Result<(), Mismatch> {
@@ -125,7 +127,7 @@ impl OnPage<'_> {
         let near = key.unwrap_or(rng.key());
         let key = [near, near, above(&near), below(&near), rng.key()][rng.between(0, 4)];
         let due = cell(page::get(self.page, &key));
-        let inputs = format!("key {key:?}");
+        let inputs = format!("key {}", hex::plain(&key));
         self.same(
             ["page get", "page get, refused"],
             &inputs,

@@ -22,7 +22,8 @@ pub struct Made {
     pub tickets: Vec<u8>,
     /// The overflow cells that were reported as dropped.
     pub dropped: Vec<Vec<u8>>,
-    pub merges: u64,
+    pub next_bases: u64,
+    pub merge_requests: u64,
     pub removals: u64,
 }
 
@@ -118,7 +119,7 @@ impl<'a, S: Side> Worker<'a, S> {
             self.made.removals += 1;
             return self.call(Call::Uncut { instead }).map(drop);
         };
-        self.made.merges += 1;
+        self.made.next_bases += 1;
         let (base, cutoff) = self.take(leaf);
         let call = Call::Next {
             base,
@@ -165,6 +166,7 @@ impl<'a, S: Side> Worker<'a, S> {
                     .leaves
                     .extend(separators(&tickets).into_iter().zip(pages));
                 self.made.tickets.extend(tickets);
+                self.made.merge_requests += u64::from(wait.is_some());
                 Ok(wait)
             }
             other => Err(format!("not a digest's answer: {other:?}")),
