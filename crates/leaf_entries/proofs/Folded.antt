@@ -9,7 +9,9 @@ use lib.Seq.{take-length}
 use Rattle.leaf_work.specs.declared.Entry.{Entry}
 use Rattle.leaf_passed.specs.declared.Passing.{Passing}
 use Rattle.leaf_passed.specs.declared.Seek.{Seek}
+use Rattle.leaf_passed.specs.declared.Unused.{Unused}
 use Rattle.leaf_passed.specs.Passed.{passedOne, passedOver}
+use Rattle.leaf_passed.specs.Behind.{unusedOne, unusedOver}
 use Rattle.leaf_passed.specs.Sought.{soughtOne, soughtOver}
 
 module _ {A S : Type 0} (step : S → A → S) where
@@ -44,3 +46,8 @@ pub seeking-folds : (s : Seek) (l : List Entry) → folded soughtOne s l ≡ sou
 unfolding folded
 seeking-folds s [] = refl
 seeking-folds s (e ∷ l) = seeking-folds (soughtOne s e) l
+
+pub unused-folds : (u : Unused) (l : List Entry) → folded unusedOne u l ≡ unusedOver u l
+unfolding folded
+unused-folds u [] = refl
+unused-folds u (e ∷ l) = unused-folds (unusedOne u e) l

@@ -2,8 +2,13 @@
 // does not cover a slice of structs, so each of them is walked by hand.
 use leaf_passed::Passing;
 use leaf_passed::Seek;
+use leaf_passed::Unused;
+use leaf_passed::begin_unused;
+use leaf_passed::first_count;
+use leaf_passed::mark;
 use leaf_passed::pass_one;
 use leaf_passed::seek_one;
+use leaf_passed::unused_one;
 use leaf_work::Entry;
 ghost use mathlib.Core.Path.{_≡_};
 ghost use mathlib.Core.List.{map};
@@ -12,6 +17,7 @@ ghost use lib.ListN.{length, set, take};
 ghost use Rattle.leaf_work.specs.Lent.{blank};
 ghost use Rattle.leaf_work.specs.Flat.{rowOf};
 ghost use Rattle.leaf_passed.specs.Passed.{PassingOn, passedOver};
+ghost use Rattle.leaf_passed.specs.Behind.{unusedOver};
 ghost use Rattle.leaf_passed.specs.Sought.{soughtOver};
 ghost use Rattle.leaf_entries.specs.Lists.{laid, narrowed, gathered, drained};
 
@@ -58,19 +64,44 @@ pub fn blank_entry() -> Entry
 
 // ---- the list is read
 
-// The pass over all entries.
-pub fn pass_entries(list: &[Entry], page: &[u8], start: Passing) -> Passing
-    requires { ⌜ PassingOn start (now page) ⌝ }
-    ensures { λ r. ⌜ (r ≡ passedOver (now (page .entry)) start (now (list .entry))) × (PassingOn r (now (page .entry))) ⌝ }
+// The pass over the first `count` entries.
+fn pass_first(list: &[Entry], page: &[u8], start: Passing, count: usize) -> Passing
+    requires { ⌜ (PassingOn start (now page)) × (count ≤ length (now list)) ⌝ }
+    ensures { λ r. ⌜ (r ≡ passedOver (now (page .entry)) start (take count (now (list .entry)))) × (PassingOn r (now (page .entry))) ⌝ }
 {
     let mut at = start;
     let mut i = 0;
-    while i < list.len() {
+    while i < count {
         let entry = list[i];
         at = pass_one(at, entry, page);
         i += 1;
     }
     at
+}
+
+// Whether the entries behind the first ones are unused.
+pub fn unused_entries(list: &[Entry], start: Unused) -> Unused
+    ensures { λ r. ⌜ r ≡ unusedOver start (now (list .entry)) ⌝ }
+{
+    let mut at = start;
+    let mut i = 0;
+    while i < list.len() {
+        let entry = list[i];
+        at = unused_one(at, entry);
+        i += 1;
+    }
+    at
+}
+
+// The pass over all entries: the used ones are passed, the others only looked at.
+pub fn pass_entries(list: &[Entry], page: &[u8], start: Passing) -> Passing
+    requires { ⌜ PassingOn start (now page) ⌝ }
+    ensures { λ r. ⌜ (r ≡ passedOver (now (page .entry)) start (now (list .entry))) × (PassingOn r (now (page .entry))) ⌝ }
+{
+    let count = first_count(start, list.len());
+    let unused = unused_entries(list, begin_unused(count));
+    let at = pass_first(list, page, start, count);
+    mark(at, unused)
 }
 
 // The search over all entries.

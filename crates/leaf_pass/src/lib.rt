@@ -168,7 +168,8 @@ fn chunk_right(
     (row[4] == sum) & behind
 }
 
-fn wrong_pass(pass: Pass) -> Pass
+// A pass that found something wrong.
+pub fn wrong_pass(pass: Pass) -> Pass
     ensures { λ r. ⌜ r ≡ wrong pass ⌝ }
 {
     let last = pass.last;

@@ -97,20 +97,6 @@ module _ (page : List ℕ) (at : Passing) (e : Entry) where
   unfolding passedOne
   a-stopped-pass-stays h o = (rw (not-true (at .go) h), o)
 
-  pub an-unused-entry-behind-all-is-passed : not (at .go) ≡ false → PassingOn at page → (t : Bool) → t ≡ (leb (at .bounds .used) (at .pass .seen) && isBlank e) → t ≡ true
-      → (at ≡ passedOne page at e) × (PassingOn at page)
-  unfolding passedOne passed
-  an-unused-entry-behind-all-is-passed h o t f k =
-      let y : (leb (at .bounds .used) (at .pass .seen) && isBlank e) ≡ true = sym f ∙ k in
-      let u : ltb (at .pass .seen) (at .bounds .used) ≡ false = le-ltb (at .pass .seen) (at .bounds .used) (leb-true _ _ (and-left (leb (at .bounds .used) (at .pass .seen)) (isBlank e) y)) in
-      let b : isBlank e ≡ true = and-right (leb (at .bounds .used) (at .pass .seen)) (isBlank e) y in
-      let q : at .pass ≡ oneOf (at .go) (passed (at .bounds) (seen at page) (at .pass) e) (at .pass) = rw (not-false (at .go) h, u) (go (at .pass .right) b) in
-      (ap (withPass at) q, o)
-    where
-      go : (r : Bool) → isBlank e ≡ true → at .pass ≡ passedBy (at .bounds) (seen at page) (at .pass) e r false (anInsert e)
-      go true b = rw (blankPassed, b)
-      go false b = refl
-
   pub a-pass-goes-on : not (at .go) ≡ false → PassingOn at page → (p : List ℕ) → p ≡ oneOf (at .reads) page [] → (z : Pass)
       → (z ≡ passed (at .bounds) p (at .pass) (entryOf (rowOf e) (e .key))) × (Small (at .bounds) z)
       → (_≡_ {A = Passing} (record { number = at .number; go = at .go; reads = at .reads; n = at .n; bounds = at .bounds; pass = z }) (passedOne page at e))
@@ -124,10 +110,3 @@ module _ (page : List ℕ) (at : Passing) (e : Entry) where
 module _ (e : Entry) (t : Bool) (f : t ≡ sameBytes (e .key) zeroKey) where
   pub an-unused-entry-is-blank : (eqb (e .kind) 0 && (eqb (e .from) 0 && (eqb (e .to) 0 && (eqb (e .sum) 0 && (t && eqb (e .flag) 0))))) ≡ isBlank e
   an-unused-entry-is-blank = rw f
-
-module _ (used seen : ℕ) (e : Entry) where
-  pub behind-all-the-entry-decides : used ≤ seen → (t : Bool) → t ≡ isBlank e → t ≡ (leb used seen && isBlank e)
-  behind-all-the-entry-decides h t f = rw (le-leb used seen h) f
-
-  pub before-that-nothing-is-behind-all : seen < used → false ≡ (leb used seen && isBlank e)
-  before-that-nothing-is-behind-all h = rw (lt-leb used seen h)

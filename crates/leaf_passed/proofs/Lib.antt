@@ -3,3 +3,4 @@ pub mod Beginnings
 pub mod Seeking
 pub mod Steps
 pub mod Verdicts
+pub mod Behind

@@ -30,14 +30,14 @@ use Rattle.leaf_passed.specs.Passed.{goes, beginning, pageNumber, beginn
 
 -- ---- what a pass over a list comes to
 
-stopped : (page : List ℕ) (at : Passing) → at .go ≡ false → (list : List Entry) → passedOver page at list ≡ at
+pub stopped : (page : List ℕ) (at : Passing) → at .go ≡ false → (list : List Entry) → passedOver page at list ≡ at
 unfolding passedOne
 stopped page at h [] = refl
 stopped page at h (e ∷ es) =
     let o : passedOne page at e ≡ at = rw h in
     rw o (stopped page at h es)
 
-went : (page : List ℕ) (at : Passing) → at .go ≡ true → (list : List Entry) → passedOver page at list ≡ withPass at (passedAll (at .bounds) (seen at page) (at .pass) list)
+pub went : (page : List ℕ) (at : Passing) → at .go ≡ true → (list : List Entry) → passedOver page at list ≡ withPass at (passedAll (at .bounds) (seen at page) (at .pass) list)
 unfolding passedOne
 went page at h [] = refl
 went page at h (e ∷ es) =

@@ -13,6 +13,7 @@ use leaf_pass::Bounds;
 use leaf_pass::Pass;
 use leaf_pass::is_zero_key;
 use leaf_pass::pass_entry;
+use leaf_pass::wrong_pass;
 use leaf_pass::zeros_from;
 use leaf_work::Entry;
 use leaf_work::Work;
@@ -20,8 +21,7 @@ use refusal::OUT_OF_TURN;
 use refusal::ROOM_LENGTH;
 use refusal::UNSOUND;
 ghost use mathlib.Core.Path.{_≡_};
-ghost use mathlib.Core.Bool.{true, _&&_};
-ghost use lib.Dec.{leb};
+ghost use mathlib.Core.Bool.{true};
 ghost use mathlib.Core.List.{List, []};
 ghost use Prim.Native.Nat.{ℕ, _≤_};
 ghost use lib.ListN.{length};
@@ -34,6 +34,7 @@ ghost use Rattle.leaf_pass.specs.Pass.{Seeing, Small};
 ghost use Rattle.leaf_check.specs.Settled.{boundsOf};
 ghost use Rattle.leaf_passed.specs.Passed.{goes, beginning, beginningOf, closedBeginning, seen, passedOne, PassingOn, soundAt, lentAt, closedAt};
 ghost use Rattle.leaf_passed.specs.Sought.{recordsIn, soughtOne, seekFrom};
+ghost use Rattle.leaf_passed.specs.Behind.{firstCount, unusedFrom, unusedOne, marked};
 
 // A pass over a list: the refusal that the page has earned, or 0; whether the entries are looked at; whether the page is read, and how many
 // records it has; what the entries are held against, and what was seen of them.
@@ -51,6 +52,12 @@ pub struct Seek {
     pub found: bool,
     pub left: usize,
     pub entry: Entry,
+}
+
+// Looking whether the entries behind the used ones are unused: how many are passed over first, and whether none behind them was in use.
+pub struct Unused {
+    pub left: usize,
+    pub all: bool,
 }
 
 // ---- how it begins
@@ -105,7 +112,7 @@ pub fn begin_closed(work: Work, size: usize) -> Passing
 // ---- one entry more
 
 // The page, or none of its bytes.
-fn read_if(reads: bool, page: &[u8]) -> &[u8]
+pub fn read_if(reads: bool, page: &[u8]) -> &[u8]
     ensures { λ r. ⌜ now r ≡ oneOf reads (now (page .entry)) [] ⌝ }
 {
     if reads {
@@ -124,25 +131,12 @@ fn is_unused(entry: Entry) -> bool
             & ((entry.to == 0) & ((entry.sum == 0) & (is_zero_key(&key) & (entry.flag == 0)))))
 }
 
-// Whether all used entries were seen and this one is unused.
-fn is_behind_all(used: usize, seen: usize, entry: Entry) -> bool
-    ensures { λ r. ⌜ r ≡ (leb used seen && isBlank entry) ⌝ }
-{
-    if used <= seen {
-        return is_unused(entry);
-    }
-    false
-}
-
-// The pass after one more entry. Most lists are longer than what is listed, so an unused entry behind the used ones is tested first, by itself.
+// The pass after one more entry.
 pub fn pass_one(at: Passing, entry: Entry, page: &[u8]) -> Passing
     requires { ⌜ PassingOn at (now page) ⌝ }
     ensures { λ r. ⌜ (r ≡ passedOne (now (page .entry)) at entry) × (PassingOn r (now (page .entry))) ⌝ }
 {
     if !at.go {
-        return at;
-    }
-    if is_behind_all(at.bounds.used, at.pass.seen, entry) {
         return at;
     }
     let kind = entry.kind as usize;
@@ -159,6 +153,63 @@ pub fn pass_one(at: Passing, entry: Entry, page: &[u8]) -> Passing
         n: at.n,
         bounds: bounds,
         pass: pass,
+    }
+}
+
+// ---- the unused entries behind the others
+
+// How many of so many entries are among the used ones.
+pub fn first_count(start: Passing, entries: usize) -> usize
+    ensures { λ r. ⌜ (r ≡ firstCount (start .bounds .used) entries) × (r ≤ entries) ⌝ }
+{
+    if start.bounds.used < entries {
+        return start.bounds.used;
+    }
+    entries
+}
+
+// Looks behind the first `count` entries.
+pub fn begin_unused(count: usize) -> Unused
+    ensures { λ r. ⌜ r ≡ unusedFrom count ⌝ }
+{
+    Unused {
+        left: count,
+        all: true,
+    }
+}
+
+// The same after one more entry.
+pub fn unused_one(at: Unused, entry: Entry) -> Unused
+    ensures { λ r. ⌜ r ≡ unusedOne at entry ⌝ }
+{
+    if at.left == 0 {
+        return Unused {
+            left: 0,
+            all: at.all & is_unused(entry),
+        };
+    }
+    Unused {
+        left: at.left - 1,
+        all: at.all,
+    }
+}
+
+// The pass over all entries, by the one over the used ones: any other that isn't unused is wrong. So the long rest of a list costs one small test
+// an entry.
+pub fn mark(at: Passing, unused: Unused) -> Passing
+    ensures { λ r. ⌜ (r ≡ marked at (unused .all)) × ((page : List ℕ) → PassingOn at page → PassingOn r page) ⌝ }
+{
+    if !(at.go & !unused.all) {
+        return at;
+    }
+    let bounds = at.bounds;
+    Passing {
+        number: at.number,
+        go: at.go,
+        reads: at.reads,
+        n: at.n,
+        bounds: bounds,
+        pass: wrong_pass(at.pass),
     }
 }
 

@@ -1,6 +1,6 @@
 -- `leaf_passed::pass_one` meets its contract.
 -- Assumes nothing.
-use Rattle.leaf_passed.proofs.Beginnings.{a-stopped-pass-stays, an-unused-entry-behind-all-is-passed, a-pass-sees-its-page, a-pass-goes-on}
+use Rattle.leaf_passed.proofs.Beginnings.{a-stopped-pass-stays, a-pass-sees-its-page, a-pass-goes-on}
 use borrow.Author.Needs.{needs}
 use Rattle.leaf_passed.proofs.pass_one.Statement.{statement}
 use Rattle.leaf_passed.proofs.pass_one.Tie as tie
@@ -9,15 +9,6 @@ returns : tie.Need-returns
 returns c =
     let start = c .before .before .before in
     a-stopped-pass-stays _ _ (start .args .entry) (c .if1 .taken) (start .pre)
-
-is-behind-all-requires : tie.Need-is-behind-all-requires
-is-behind-all-requires c κs = search needs
-
-returns-2 : tie.Need-returns-2
-returns-2 c =
-    let tested = c .before in
-    let start = tested .before .before .before .before in
-    an-unused-entry-behind-all-is-passed _ _ (start .args .entry) (tested .before .if1 .left) (start .pre) _ (tested .is-behind-all .ensures) (c .if2 .taken)
 
 cast-kind : tie.Need-cast-kind
 cast-kind c = search needs
@@ -31,26 +22,16 @@ read-if-requires c κs = search needs
 pass-entry-requires : tie.Need-pass-entry-requires
 pass-entry-requires c κs =
     let read = c .before in
-    let going = read .before .before .before .before .before .before in
+    let going = read .before .before .before .before in
     let start = going .before .before .before in
     (a-pass-sees-its-page _ _ (start .args .entry) (going .if1 .left) (start .pre) _ (read .read-if .ensures), start .pre .small)
 
-returns-3 : tie.Need-returns-3
-returns-3 c =
+returns-2 : tie.Need-returns-2
+returns-2 c =
     let read = c .before .before in
-    let going = read .before .before .before .before .before .before in
+    let going = read .before .before .before .before in
     let start = going .before .before .before in
     a-pass-goes-on _ _ (start .args .entry) (going .if1 .left) (start .pre) _ (read .read-if .ensures) _ (c .pass-entry .ensures)
 
 pub pass-one-spec : {M : Type 1} → statement M
-pass-one-spec =
-    tie.close
-    (tie.spec
-    returns
-    is-behind-all-requires
-    returns-2
-    cast-kind
-    cast-flag
-    read-if-requires
-    pass-entry-requires
-    returns-3)
+pass-one-spec = tie.close (tie.spec returns cast-kind cast-flag read-if-requires pass-entry-requires returns-2)

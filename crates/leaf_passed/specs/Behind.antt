@@ -1,0 +1,31 @@
+-- "unused entries .. are zero": the entries behind the used ones, looked at by themselves. `proofs/Behind.antt` shows that the pass over all
+-- entries comes to what the pass over the used ones and this one come to.
+use mathlib.Core.Bool.{Bool, true, false, not, _&&_}
+use mathlib.Core.List.{List, [], _∷_}
+use Prim.Native.Nat.{ℕ, _-_}
+use lib.Dec.{ltb}
+use Rattle.leaf_work.specs.declared.Entry.{Entry}
+use Rattle.leaf_work.specs.Tests.{oneOf, isZero}
+use Rattle.leaf_work.specs.Sound.{isBlank}
+use Rattle.leaf_pass.specs.Pass.{wrong}
+use Rattle.leaf_passed.specs.declared.Passing.{Passing}
+use Rattle.leaf_passed.specs.declared.Unused.{Unused}
+use Rattle.leaf_passed.specs.Passed.{withPass}
+
+-- the used entries of a list
+unfoldable pub firstCount : ℕ → ℕ → ℕ
+firstCount used entries = oneOf (ltb used entries) used entries
+
+abbrev pub unusedFrom : ℕ → Unused
+unusedFrom count = record { left = count; all = true }
+
+unfoldable pub unusedOne : Unused → Entry → Unused
+unusedOne u e = record { left = u .left - 1; all = oneOf (isZero (u .left)) (u .all && isBlank e) (u .all) }
+
+abbrev pub unusedOver : Unused → List Entry → Unused
+unusedOver u [] = u
+unusedOver u (e ∷ es) = unusedOver (unusedOne u e) es
+
+-- a pass that goes on is wrong where an entry behind the used ones is in use
+unfoldable pub marked : Passing → Bool → Passing
+marked at unused = withPass at (oneOf (at .go && not unused) (wrong (at .pass)) (at .pass))
