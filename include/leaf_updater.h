@@ -200,7 +200,7 @@ LeafReport leaf_ingest(LeafWork *work, LeafEntry *list, size_t list_len, uint8_t
  * Refuses by: 1 to 6 for the base's page; 7; 8; 9 when waiting or done; 17 where the area is shorter than LEAF_AREA_ASKED of the pending
  * body or the tickets shorter than LEAF_TICKETS_ASKED, also where it would give no leaf.
  * Nearly all of the stack is room for a list of 4,096 entries, however long the list is.
- * Stack: 297,728 bytes.
+ * Stack: 297,792 bytes.
  */
 LeafGave leaf_digest(LeafWork *work, LeafEntry *list, size_t list_len, uint8_t *store, size_t store_len,
                      const uint8_t *page, size_t page_len, uint8_t *area, size_t area_len, uint8_t *tickets,

@@ -2,4 +2,5 @@
 pub mod Putting
 pub mod Pushing
 pub mod Writing
+pub mod Shifting
 pub mod Rebuilding

@@ -1,13 +1,19 @@
 -- Bytes put into a buffer one after the other, and side by side. Assumes nothing.
-use Prim.Native.Nat.{ℕ, _+_, _-_, _≤_}
-use mathlib.Core.Path.{_≡_, refl, sym, _∙_}
-use mathlib.Core.List.{List, [], _++_, append-nil, append-assoc}
+use Prim.Native.Nat.{ℕ, zero, suc, _+_, _-_, _≤_}
+use mathlib.Core.Path.{_≡_, refl, sym, ap, _∙_}
+use mathlib.Core.List.{List, [], _∷_, _++_, append-nil, append-assoc}
 use native.Mathlib.Omega.{arith}
-use native.Mathlib.Nat.{add-zero, add-assoc}
+use native.Mathlib.Nat.{zero-add, suc-add, add-zero, add-assoc}
 use lib.ListN.{length, take, drop, length-append, length-drop, take-append-drop}
-use lib.Seq.{length-take-le, take-at, drop-append-add, drop-drop}
+use lib.Seq.{length-take-le, take-nil, take-at, drop-at, take-append-seam, drop-append-add, drop-drop}
 use Rattle.leaf_node.specs.Build.{put}
 use Rattle.leaf_node.proofs.Copying.{put-past, put-front}
+
+-- a part of a list is the end of a front
+pub take-drop : {A : Type 0} (f n : ℕ) (xs : List A) → take n (drop f xs) ≡ drop f (take (f + n) xs)
+take-drop zero n xs = rw (zero-add n)
+take-drop (suc f) n [] = rw (take-nil n, take-nil (suc f + n))
+take-drop (suc f) n (x ∷ xs) = rw (suc-add f n) (take-drop f n xs)
 
 pub length-put : (d : List ℕ) (at : ℕ) (s : List ℕ) → at + length s ≤ length d → length (put d at s) ≡ length d
 unfolding put
@@ -17,6 +23,31 @@ length-put d at s h = simp (length-append, length-drop) (omega (arith, length-ta
 pub put-none : (d : List ℕ) (at : ℕ) → put d at [] ≡ d
 unfolding put
 put-none d at = simp (append-nil, add-zero, take-append-drop)
+
+-- what stands there already
+pub put-same : (d : List ℕ) (at : ℕ) (s : List ℕ) → take (length s) (drop at d) ≡ s → put d at s ≡ d
+unfolding put
+put-same d at s e =
+    let t : s ++ drop (length s) (drop at d) ≡ drop at d = ap (λ l. l ++ drop (length s) (drop at d)) (sym e) ∙ take-append-drop (length s) (drop at d) in
+    rw (← (drop-drop (length s) at d), append-assoc (take at d) s (drop (length s) (drop at d)), t) (take-append-drop at d)
+
+-- what is put stands there
+pub put-stands : (d : List ℕ) (at : ℕ) (s : List ℕ) → at ≤ length d → take (length s) (drop at (put d at s)) ≡ s
+unfolding put
+put-stands d at s h =
+    let l : length (take at d) ≡ at = length-take-le at d h in
+    rw (append-assoc (take at d) s (drop (at + length s) d), drop-at (take at d) (s ++ drop (at + length s) d) at l) (take-append-seam s (drop (at + length s) d))
+
+put-parts : (d : List ℕ) (at : ℕ) (s : List ℕ) → put d at s ≡ take at d ++ (s ++ drop (at + length s) d)
+unfolding put
+put-parts d at s = append-assoc (take at d) s (drop (at + length s) d)
+
+-- t in the place of s
+pub put-over : (d : List ℕ) (at : ℕ) (s t : List ℕ) → at ≤ length d → length s ≡ length t → put (put d at s) at t ≡ put d at t
+put-over d at s t h e =
+    let l : length (take at d) ≡ at = length-take-le at d h in
+    let r : List ℕ = drop (at + length s) d in
+    rw (put-parts d at s, put-past (take at d) (s ++ r) t at 0 (omega arith), put-front s r t e, put-parts d at t, e)
 
 -- t right behind s
 pub put-put : (d : List ℕ) (at : ℕ) (s : List ℕ) (b : ℕ) (t : List ℕ) → b ≡ at + length s → at ≤ length d → put (put d at s) b t ≡ put d at (s ++ t)

@@ -4,15 +4,12 @@ use mathlib.Core.Path.{_≡_, refl, sym, ap, _∙_}
 use mathlib.Core.Bool.{Bool, true, false}
 use mathlib.Core.List.{List, [], _∷_, _++_, append-nil}
 use native.Mathlib.Omega.{arith}
-use native.Mathlib.Decide.{decLe}
 use native.Mathlib.Nat.{sub-self, add-sub-cancel-left}
 use native.Mathlib.Numerals.{add-one}
-use lib.Dec.{leb}
 use lib.ListN.{length, getD, take, drop, set, length-take, length-drop, getD-replicate}
 use lib.Seq.{paste, paste-zero, sets-eq}
-use borrow.Author.Tests.{le-leb, lt-leb}
 use Rattle.leaf_node.specs.Record.{Record, values, total}
-use Rattle.leaf_node.specs.Page.{count, pointer, keyAt, numberAt, offsetAt, flagAt, start, lengthAt, valueAt, recordAt, run, recordsBetween, valuesSize}
+use Rattle.leaf_node.specs.Page.{count, pointer, keyAt, offsetAt, flagAt, start, lengthAt, valueAt, recordAt, run, recordsBetween, valuesSize}
 use Rattle.leaf_node.specs.Build.{le16, tagged, zeros, pointers, put, started, pushed}
 use Rattle.leaf_node.specs.Reply.{cellAt}
 use Rattle.leaf_node.specs.Steps.{Readable}
@@ -60,24 +57,6 @@ number-flagged at f e = rw e
 pub number-plain : (at : ℕ) (f : Bool) → f ≡ false → at ≡ tagged at f
 unfolding tagged
 number-plain at f e = rw e (omega arith)
-
--- ---- a pointer that is shifted: its top bit stays
-
-number-shifted : (w at first : ℕ) → w < 65536 → first ≤ w % 32768 → at + (w % 32768 - first) < 32768 → w + at - first ≡ tagged (at + (w % 32768 - first)) (leb 32768 w)
-unfolding tagged
-number-shifted w at first h l m = elim (decLe 32768 w) [
-  | yes k ↦ rw (le-leb 32768 w k) (omega arith)
-  | no k ↦ let s : w < 32768 = omega arith in rw (lt-leb 32768 w s) (omega arith)
-]
-
-pub pointer-shifted : (p d x y k : List ℕ) (i place first at w : ℕ) → Shift p i (length d) place first at → k ≡ keyAt p i → length k ≡ 32 → x ≡ put d place k → w ≡ numberAt p i
-    → w < 65536 → y ≡ put x (place + 32) (le16 (w + at - first)) → y ≡ put d place (keyAt p i ++ le16 (tagged (at + (offsetAt p i - first)) (flagAt p i)))
-unfolding offsetAt flagAt
-pointer-shifted p d x y k i place first at w s ek lk ex ew h ey =
-    let n : w + at - first ≡ tagged (at + (numberAt p i % 32768 - first)) (leb 32768 (numberAt p i)) =
-    number-shifted w at first h (omega (arith, s .order)) (omega (arith, s .small)) ∙ rw ew in
-    let t : List ℕ = le16 (tagged (at + (numberAt p i % 32768 - first)) (leb 32768 (numberAt p i))) in
-    rw (ey, ex, n, put-put d place k (place + 32) t (omega arith) (omega (arith, s .room)), ek)
 
 -- ---- the start and one record
 
@@ -143,7 +122,7 @@ module _ (p : List ℕ) (from to m j at : ℕ) (c : Chunk p from to m j at) wher
   offset-is : (i : ℕ) → i < to → offsetAt p i ≡ start p i
   offset-is i l = start-in p (count p) i (offsetAt p i) refl (omega (arith, c .there)) refl
 
-  pub chunk-shift : (i first place n : ℕ) → from ≤ i → i < to → first ≡ start p from → n ≡ m → place ≡ pointer (j + (i - from)) → Shift p i n place first at
+  pub chunk-shift : (i first place n : ℕ) → from ≤ i → i < to → first ≡ start p from → n ≡ m → place ≡ pointer (j + (i - from)) + 32 → Shift p i n place first at
   chunk-shift i first place n h l e q r =
       let a = starts from i h (omega arith) in
       let b = starts i to (omega arith) (omega arith) in

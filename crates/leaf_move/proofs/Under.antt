@@ -1,19 +1,14 @@
 -- New elements in the places right below an index: what they leave as it was, and how they come one below the other. Assumes nothing.
 use mathlib.Core.Path.{_≡_, refl, sym, ap, _∙_}
 use mathlib.Core.List.{List, [], _∷_, _++_, append-assoc}
-use Prim.Native.Nat.{ℕ, zero, suc, _+_, _-_, _≤_, _<_}
+use Prim.Native.Nat.{ℕ, suc, _+_, _-_, _≤_, _<_}
 use native.Mathlib.Omega.{arith}
-use native.Mathlib.Nat.{zero-add, suc-add}
 use native.Mathlib.Numerals.{add-one}
 use lib.ListN.{length, getD, set, take, drop, length-set, length-append, length-drop, take-append-drop}
-use lib.Seq.{length-take-le, take-nil, take-append-le, take-take, drop-at, drop-cons, getD-take, set-split}
+use lib.Seq.{length-take-le, take-append-le, take-take, drop-at, drop-cons, getD-take, set-split}
 use Rattle.leaf_node.specs.Build.{put}
+use Rattle.leaf_builder.proofs.Putting.{take-drop}
 use Rattle.leaf_move.specs.Moving.{under}
-
-take-drop : {A : Type 0} (f n : ℕ) (xs : List A) → take n (drop f xs) ≡ drop f (take (f + n) xs)
-take-drop zero n xs = rw (zero-add n)
-take-drop (suc f) n [] = rw (take-nil n, take-nil (suc f + n))
-take-drop (suc f) n (x ∷ xs) = rw (suc-add f n) (take-drop f n xs)
 
 module _ {A : Type 0} where
   pub under-is : (xs : List A) (t : ℕ) (new : List A) → under xs t new ≡ take (t - length new) xs ++ (new ++ drop t xs)

@@ -335,6 +335,11 @@ module _ (p : List ℕ) (n : ℕ) (l : Laid p n) (bytes : Bytes p) where
         number-run i (omega arith),
       )
 
+  -- for values that stay where they are
+  pub pointers-of-a-range-are-one-part : (from to : ℕ) → from ≤ to → to ≤ n → pointers (start p from) (recordsBetween p from to) ≡ take (34 * (to - from)) (drop (pointer from) p)
+  unfolding recordsBetween
+  pointers-of-a-range-are-one-part from to h k = pointers-run (to - from) from (omega arith)
+
   count-two : le16 (count p) ≡ take 2 p
   unfolding count
   count-two = two 0 (omega (arith, l .inside))
