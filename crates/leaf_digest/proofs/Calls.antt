@@ -110,7 +110,11 @@ module _ (size : ℕ) (w : Work) (rows keys : List (List ℕ)) (store page area 
       }
 
       pub an-accepted-work-can-be-digested : (p : List ℕ) → p ≡ regarded w page → Digests size w rows keys store p area tickets
-      an-accepted-work-can-be-digested p r = rw r (record { gives = gives; in-place = readiness.in-place size w list store page lent-earns-nothing })
+      an-accepted-work-can-be-digested p r = rw r (record {
+        gives = gives;
+        in-place = readiness.in-place size w list store page lent-earns-nothing;
+        unused = readiness.unused-bytes-are-zero size w list store page lent-earns-nothing;
+      })
 
     taken : o ≡ outcome.digestDone size w list store area tickets (plan size (cutoffOf w) pending)
     unfolding outcome.digestOn

@@ -59,6 +59,7 @@ module _ (size : ℕ) (w : Work) (rows keys : List (List ℕ)) (store page area 
     what-is-left-can-be-kept = record {
       ready = d .gives .ready;
       in-place = d .in-place;
+      unused = d .unused;
       counted = d .gives .counted;
       summed = d .gives .summed;
       there = g .there;

@@ -3,11 +3,11 @@ use mathlib.Core.Path.{_≡_}
 use mathlib.Core.Bool.{true, _&&_}
 use mathlib.Core.List.{List, map}
 use Prim.Native.Nat.{ℕ, _+_, _-_, _*_}
-use lib.ListN.{take}
+use lib.ListN.{take, drop}
 use Rattle.leaf_node.specs.Page.{count, valuesSize}
 use Rattle.leaf_model.specs.Work.{Waiting, Done, zeroKey}
 use Rattle.leaf_work.specs.declared.Work.{Work}
-use Rattle.leaf_work.specs.Tests.{isZero, isSet, bit, oneOf}
+use Rattle.leaf_work.specs.Tests.{every, isZero, isSet, bit, oneOf}
 use Rattle.leaf_work.specs.Lent.{turnNumber}
 use Rattle.leaf_work.specs.Flat.{listOf, rowOf}
 use Rattle.leaf_work.specs.Sound.{placed}
@@ -45,6 +45,7 @@ workWith w left separator = record {
 pub record Digests (size : ℕ) (w : Work) (rows keys : List (List ℕ)) (store page area tickets : List ℕ) : Type 0 where
   pub gives : Gives size w rows keys store page area tickets
   pub in-place : placed (w .filled) 0 (take (w .used) (listOf rows keys)) ≡ true
+  pub unused : every isZero (drop (w .filled) store) ≡ true
 
 -- what an accepted digest with the outcome o leaves
 pub record Leaves (o : outcome.Digested) (r : Digested) (rows′ keys′ : List (List ℕ)) (store′ area′ tickets′ : List ℕ) : Type 0 where

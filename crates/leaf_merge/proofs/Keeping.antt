@@ -5,8 +5,8 @@ use mathlib.Core.List.{List, [], _∷_, _++_, map, append-nil}
 use Prim.Native.Nat.{ℕ, zero, suc, _+_, _-_, _≤_, _<_}
 use native.Mathlib.Omega.{arith}
 use native.Mathlib.Numerals.{add-one}
-use lib.ListN.{length, getD, take, drop, replicate, length-drop, take-append-drop}
-use lib.Seq.{drop-length}
+use lib.ListN.{length, getD, take, drop, replicate, length-drop, getD-replicate, take-append-drop}
+use lib.Seq.{drop-length, getD-drop}
 use Rattle.bit_ops.specs.Steps.{zeros}
 use Rattle.leaf_node.specs.Record.{Record, values, total}
 use Rattle.leaf_node.specs.Page.{count, lengthAt, run}
@@ -14,12 +14,14 @@ use Rattle.leaf_node.proofs.Lengths.{length-values}
 use Rattle.leaf_model.specs.Work.{zeroKey}
 use Rattle.leaf_work.specs.declared.Work.{Work}
 use Rattle.leaf_work.specs.declared.Entry.{Entry}
+use Rattle.leaf_work.specs.Tests.{every, isZero}
 use Rattle.leaf_work.specs.Lent.{blank}
 use Rattle.leaf_work.specs.Flat.{entriesOf, listOf, rowOf}
 use Rattle.leaf_work.specs.Pending.{pendingOf}
 use Rattle.leaf_work.specs.Sound.{placed}
 use Rattle.leaf_work.specs.Digest.{insertsOf}
-use Rattle.leaf_work.proofs.Tests.{map-append}
+use Rattle.leaf_work.proofs.Tests.{map-append, every-all}
+use Rattle.leaf_work.proofs.Decoding.{all-zero}
 use Rattle.leaf_work.proofs.Operations.{total-append}
 use Rattle.leaf_work.proofs.FlatList.{length-entries, rows-and-keys-agree}
 use Rattle.leaf_cut.specs.declared.Span.{Span}
@@ -29,8 +31,8 @@ use Rattle.leaf_cut.specs.Sizes.{sum, listedSizes, pendingSizes, indexOf, sizes
 use Rattle.leaf_cut.specs.Records.{spanOf, spannedRecords, recordsFrom}
 use Rattle.leaf_cut.specs.Steps.{Kept}
 use Rattle.leaf_cut.proofs.Records.{what-is-ready-is-kept, what-is-ready-is-spread, the-pending-records-by-the-lengths-of-their-values, sizes-from-a-cursor}
-use Rattle.leaf_move.specs.Moving.{under, settled}
-use Rattle.leaf_move.proofs.Under.{drop-under}
+use Rattle.leaf_move.specs.Moving.{under, settled, Spare}
+use Rattle.leaf_move.proofs.Under.{drop-under, getD-under}
 use Rattle.leaf_merge.specs.Keeping.{keptRecords, Keeps, KeptAs}
 use Rattle.leaf_raise.specs.Raising.{Room, Raised}
 use Rattle.leaf_merge.specs.Lifting.{fullTop, Raises}
@@ -47,6 +49,13 @@ top-is : {A : Type 0} (xs new ys : List A) (c : ℕ) → length new ≡ c → c 
 top-is {A} xs new ys c l m q y =
     let a : length ys - c ≡ length xs - length new = omega (arith, l, y) in
     rw (a, q) (drop-under xs (length xs) new (omega (arith, l)) (omega arith) ∙ ap (λ (t : List A). new ++ t) (drop-length xs) ∙ append-nil new)
+
+unused-is-zero : (store : List ℕ) (filled : ℕ) → every isZero (drop filled store) ≡ true → (i : ℕ) → filled ≤ i → i < length store → getD store i 0 ≡ 0
+unused-is-zero store filled e i h l =
+    let z : drop filled store ≡ replicate (length (drop filled store)) 0 = all-zero (every-all isZero (drop filled store) e) in
+    let a : filled + (i - filled) ≡ i = omega arith in
+    ap (λ (j : ℕ). getD store j 0) (sym a) ∙ sym (getD-drop filled store (i - filled) 0) ∙ ap (λ (x : List ℕ). getD x (i - filled) 0) z
+    ∙ getD-replicate (length (drop filled store)) (i - filled) 0 0 (omega (arith, length-drop filled store))
 
 -- ---- what is kept can be raised
 
@@ -171,8 +180,17 @@ module _ (w : Work) (rows keys : List (List ℕ)) (store page : List ℕ) (at : 
       pub the-keys-can-be-settled : left .count ≤ length keys₁
       the-keys-can-be-settled = omega (arith, keys-long, agree .0, k .left-counted, raises .few)
 
-      pub the-store-can-be-settled : left .bytes ≤ length store₁
-      the-store-can-be-settled = omega (arith, store-long, raises .short)
+      pub the-store-can-be-settled : Spare store₁ (left .bytes) (w .filled)
+      the-store-can-be-settled = record {
+        few = omega (arith, store-long, raises .short);
+        within = omega (arith, store-long, k .ready .filled-in);
+        zero = λ i h l. below i (omega (arith, store-long, k .left-summed)) ∙ unused-is-zero store (w .filled) (k .unused) i h (omega (arith, store-long));
+      }
+        where
+          below : (i : ℕ) → i < length store - total kept → getD store₁ i 0 ≡ getD store i 0
+          below i l =
+              let v : length (values kept) ≡ total kept = length-values kept in
+              rw (raised .store-is) (getD-under store (length store) (values kept) (omega (arith, k .left-summed, raises .short)) (omega arith) i 0 (omega arith))
 
       zero-start : left .bytes - total kept ≡ 0
       zero-start = omega (arith, k .left-summed)

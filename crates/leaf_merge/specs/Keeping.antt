@@ -3,12 +3,13 @@ use mathlib.Core.Path.{_≡_}
 use mathlib.Core.Bool.{true}
 use mathlib.Core.List.{List, _++_, map}
 use Prim.Native.Nat.{ℕ, _+_, _-_}
-use lib.ListN.{length, take, replicate}
+use lib.ListN.{length, take, drop, replicate}
 use Rattle.bit_ops.specs.Steps.{zeros}
 use Rattle.leaf_node.specs.Record.{Record, values, total}
 use Rattle.leaf_node.specs.Page.{count, valuesSize}
 use Rattle.leaf_work.specs.declared.Work.{Work}
 use Rattle.leaf_work.specs.declared.Entry.{Entry}
+use Rattle.leaf_work.specs.Tests.{every, isZero}
 use Rattle.leaf_work.specs.Lent.{blank}
 use Rattle.leaf_work.specs.Flat.{listOf, rowOf}
 use Rattle.leaf_work.specs.Pending.{pendingOf}
@@ -29,6 +30,7 @@ module _ (w : Work) (rows keys : List (List ℕ)) (store page : List ℕ) (at : 
   pub record Keeps (left : Gauge) : Type 0 where
     pub ready : Ready w (listOf rows keys) store page
     pub in-place : placed (w .filled) 0 (take (w .used) (listOf rows keys)) ≡ true
+    pub unused : every isZero (drop (w .filled) store) ≡ true
     pub counted : length (pendingOf w (listOf rows keys) store page) ≡ w .count + (count page - w .low)
     pub summed : total (pendingOf w (listOf rows keys) store page) ≡ w .bytes + valuesSize page (w .low) (count page)
     pub there : CursorIn rows page (spanOf w page) at

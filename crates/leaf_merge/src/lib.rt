@@ -111,5 +111,5 @@ pub fn prepare_merge_ops(
     raise(rows, keys, store, page, span, at, left.bytes);
     settle_rows(rows, left.count);
     settle_keys(keys, left.count);
-    settle_bytes(store, left.bytes);
+    settle_bytes(store, left.bytes, work.filled);
 }

@@ -108,10 +108,10 @@ module _ {A : Type 0} (z : A) (before : List A) (from : ℕ) (room : from ≤ le
 -- ---- both
 
 module _ {A : Type 0} (before : List A) (count : ℕ) (room : count ≤ length before) (low : List A) (e : low ≡ lowered before count) where
-  top-long : length (drop (length before - count) before) ≡ count
+  pub top-long : length (drop (length before - count) before) ≡ count
   top-long = length-drop (length before - count) before ∙ omega arith
 
-  low-long : length low ≡ length before
+  pub low-long : length low ≡ length before
   unfolding lowered
   low-long = rw e (simp (length-append, length-drop) (omega arith))
 

@@ -1,7 +1,8 @@
 -- What moving within a list makes of it.
+use mathlib.Core.Path.{_≡_}
 use mathlib.Core.List.{List, _++_}
-use Prim.Native.Nat.{ℕ, _-_}
-use lib.ListN.{length, take, drop, replicate}
+use Prim.Native.Nat.{ℕ, _-_, _≤_, _<_}
+use lib.ListN.{length, getD, take, drop, replicate}
 
 -- new elements in the places right below index t
 unfoldable pub under : {A : Type 0} → List A → ℕ → List A → List A
@@ -18,3 +19,9 @@ cleared z xs from = take from xs ++ replicate (length xs - from) z
 -- the last `count` elements at the start, and z behind them
 unfoldable pub settled : {A : Type 0} → A → List A → ℕ → List A
 settled z xs count = drop (length xs - count) xs ++ replicate (length xs - count) z
+
+-- of the bytes before the last `count` only the first `filled` may be in use: the others are zeros
+pub record Spare (d : List ℕ) (count filled : ℕ) : Type 0 where
+  pub few : count ≤ length d
+  pub within : filled ≤ length d
+  pub zero : (i : ℕ) → filled ≤ i → i < length d - count → getD d i 0 ≡ 0

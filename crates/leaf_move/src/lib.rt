@@ -2,13 +2,13 @@
 // Ported from nomt/src/beatree/ops/update/leaf_updater.rs of thrumdev/nomt: what `prepare_merge_ops` does to the vector of operations.
 use leaf_builder::clear_between;
 ghost use mathlib.Core.Path.{_≡_};
-ghost use Prim.Native.Nat.{_-_, _≤_, _<_};
+ghost use Prim.Native.Nat.{_-_, _≤_, _<_, max};
 ghost use lib.ListN.{length, set, take, drop};
 ghost use Rattle.leaf_model.specs.Work.{zeroKey};
 ghost use Rattle.leaf_work.specs.Tests.{bit};
 ghost use Rattle.leaf_work.specs.Lent.{blank, insertAt};
 ghost use Rattle.leaf_work.specs.Flat.{rowOf};
-ghost use Rattle.leaf_move.specs.Moving.{under, lowered, cleared, settled};
+ghost use Rattle.leaf_move.specs.Moving.{under, lowered, cleared, settled, Spare};
 
 // ---- an insert
 
@@ -145,12 +145,23 @@ pub fn settle_keys(keys: &mut [[u8; 32]], count: usize)
     clear_keys(keys, count);
 }
 
-// The last `count` bytes at the start, and zeros behind them.
-pub fn settle_bytes(d: &mut [u8], count: usize)
-    requires { ⌜ count ≤ length (now d) ⌝ }
+// The larger of two numbers.
+fn larger(a: usize, b: usize) -> usize
+    ensures { λ r. ⌜ r ≡ max a b ⌝ }
+{
+    if a < b { b } else { a }
+}
+
+// The last `count` bytes at the start, and zeros behind them. Before them only the first `filled` may be in use, so that only
+// those are cleared, and where the last ones stood: a store is mostly unused.
+pub fn settle_bytes(d: &mut [u8], count: usize, filled: usize)
+    requires { ⌜ Spare (now d) count filled ⌝ }
     ensures { λ _. ⌜ now (d .exit) ≡ settled 0 (now (d .entry)) count ⌝ }
 {
     let end = d.len();
+    let used = larger(count, filled);
+    let top = larger(used, end - count);
     lower_bytes(d, count);
-    clear_between(d, count, end);
+    clear_between(d, count, used);
+    clear_between(d, top, end);
 }

@@ -165,7 +165,8 @@ pub fn open(
     }
     settle_rows(rows, 0);
     settle_keys(keys, 0);
-    settle_bytes(store, 0);
+    let all = store.len();
+    settle_bytes(store, 0, all);
     Updated {
         refusal: 0,
         work: fresh_work(based, separator, cut, cutoff),

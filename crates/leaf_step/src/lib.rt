@@ -119,7 +119,8 @@ pub fn open_step(
             work: work,
         };
     }
-    settle_bytes(store, 0);
+    let all = store.len();
+    settle_bytes(store, 0, all);
     OpenStep {
         refusal: 0,
         from: 0,

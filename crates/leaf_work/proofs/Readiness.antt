@@ -86,8 +86,11 @@ module _ (size : ℕ) (w : Work) (list : List Entry) (store page : List ℕ) (z 
   pub in-place : placed (w .filled) 0 es ≡ true
   in-place = and-left (placed (w .filled) 0 es) _ values-right
 
+  pub unused-bytes-are-zero : every isZero (drop (w .filled) store) ≡ true
+  unused-bytes-are-zero = and-right (placed (w .filled) 0 es) _ values-right
+
   blank-bytes : drop (w .filled) store ≡ zeros (length (drop (w .filled) store))
-  blank-bytes = all-zero (every-all isZero (drop (w .filled) store) (and-right (placed (w .filled) 0 es) _ values-right))
+  blank-bytes = all-zero (every-all isZero (drop (w .filled) store) unused-bytes-are-zero)
 
   entries-are : entriesOf p 0 ops ≡ es
   entries-are = decoded-entries-are-the-entries (w .low) store p (w .filled) filled-in 0 shapes in-place

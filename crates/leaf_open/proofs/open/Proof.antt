@@ -1,7 +1,7 @@
 -- `leaf_open::open` meets its contract.
 -- Assumes nothing.
 use mathlib.Core.Path.{_∙_}
-use Rattle.leaf_move.proofs.Settling.{settling-none-clears-all}
+use Rattle.leaf_move.proofs.Settling.{settling-none-clears-all, all-may-be-in-use}
 use Rattle.leaf_open.proofs.Openings.{a-refused-opening-changes-nothing, an-accepted-opening-clears-all}
 use borrow.Author.Needs.{needs}
 use Rattle.leaf_open.proofs.open.Statement.{statement}
@@ -29,7 +29,7 @@ settle-keys-requires : tie.Need-settle-keys-requires
 settle-keys-requires c κs = search needs
 
 settle-bytes-requires : tie.Need-settle-bytes-requires
-settle-bytes-requires c κs = search needs
+settle-bytes-requires c κs = search (all-may-be-in-use, needs)
 
 fresh-work-requires : tie.Need-fresh-work-requires
 fresh-work-requires c κs = search needs

@@ -1,7 +1,7 @@
 -- `leaf_step::open_step` meets its contract.
 -- Assumes nothing.
 use mathlib.Core.Path.{refl, _∙_}
-use Rattle.leaf_move.proofs.Settling.{settling-none-clears-all}
+use Rattle.leaf_move.proofs.Settling.{settling-none-clears-all, all-may-be-in-use}
 use Rattle.leaf_step.proofs.Openings.{a-refused-opening-changes-nothing, an-accepted-opening-clears-all}
 use borrow.Author.Needs.{needs}
 use Rattle.leaf_step.proofs.open_step.Statement.{statement}
@@ -14,7 +14,7 @@ returns : tie.Need-returns
 returns c = λ list l. a-refused-opening-changes-nothing _ _ _ _ _ _ _ _ _ list l (c .before .open-number .ensures list _ l refl) (c .if1 .taken)
 
 settle-bytes-requires : tie.Need-settle-bytes-requires
-settle-bytes-requires c κs = search needs
+settle-bytes-requires c κs = search (all-may-be-in-use, needs)
 
 fresh-work-requires : tie.Need-fresh-work-requires
 fresh-work-requires c κs = search needs
