@@ -1,23 +1,25 @@
 -- The call: what an accepted digest may rely on, and what a digest leaves, accepted or refused. Assumes nothing.
-use mathlib.Core.Path.{_≡_, refl, sym, ap, _∙_}
+use mathlib.Core.Path.{_≡_, refl, sym, ap, subst, _∙_}
 use mathlib.Core.Bool.{true}
-use mathlib.Core.List.{List, [], _∷_}
-use Prim.Native.Nat.{ℕ, _*_}
+use mathlib.Core.List.{List, [], _∷_, _++_}
+use Prim.Native.Nat.{ℕ, _+_, _-_, _*_, _≤_, _<_}
 use lib.Dec.{leb}
-use lib.ListN.{length, take, drop, take-append-drop}
+use lib.ListN.{length, getD, take, drop, take-append-drop}
+use lib.Seq.{getD-take}
 use borrow.Author.Tests.{eq-eqb, ne-eqb, leb-true}
 use Rattle.leaf_node.specs.Limits.{PageSize, pagesAsked}
-use Rattle.leaf_node.specs.Record.{Record, body}
-use Rattle.leaf_node.specs.Fits.{All, nil, cons}
-use Rattle.leaf_model.specs.Work.{zeroKey, plan}
+use Rattle.leaf_node.specs.Record.{Record, body, total}
+use Rattle.leaf_node.specs.Page.{count}
+use Rattle.leaf_node.specs.Fits.{All, nil, cons, Keyed, Light}
+use Rattle.leaf_model.specs.Work.{zeroKey, keysRise, plan}
 use Rattle.leaf_model.proofs.Tests.{and-left, and-right}
 use Rattle.leaf_model.proofs.Lists.{all-left}
 use Rattle.leaf_work.specs.declared.Work.{Work}
 use Rattle.leaf_work.specs.declared.Entry.{Entry}
-use Rattle.leaf_work.specs.Lent.{isOpen, cutoffOf, regarded}
+use Rattle.leaf_work.specs.Lent.{blank, mostEntries, isOpen, cutoffOf, regarded}
 use Rattle.leaf_work.specs.Flat.{listOf, entriesOf, rowsAfter, keysAfter}
-use Rattle.leaf_work.specs.Pending.{pendingOf}
-use Rattle.leaf_work.specs.Ready.{Ready}
+use Rattle.leaf_work.specs.Pending.{placesOf, restPlaces, recordsHeld, pendingOf}
+use Rattle.leaf_work.specs.Ready.{EntryIn, Ready}
 use Rattle.leaf_work.specs.Verdict.{lentVerdict, hasPages, digestVerdict}
 use Rattle.leaf_work.specs.Digest as outcome
 use Rattle.leaf_work.proofs.Tests.{passed, first-passed}
@@ -38,6 +40,87 @@ entries-keyed : (rows : List (List ℕ)) {keys : List (List ℕ)} → All IsKey 
 entries-keyed [] a = nil
 entries-keyed (r ∷ rs) nil = nil
 entries-keyed (r ∷ rs) (cons k a) = cons k (entries-keyed rs a)
+
+-- ---- an accepted work can be digested, over rows and keys that begin with its used entries and have room for all that is pending
+
+module _ (size : ℕ) (w : Work) (list : List Entry) (store page area tickets : List ℕ) (none : digestVerdict size w (pendingOf w list store (regarded w page)) area tickets (lentVerdict size w list store page) ≡ 0) where
+  abbrev given : List Record
+  given = pendingOf w list store (regarded w page)
+
+  pub lent-earns-nothing : lentVerdict size w list store page ≡ 0
+  unfolding digestVerdict
+  lent-earns-nothing = first-passed (lentVerdict size w list store page) _ none .0
+
+  has-pages : hasPages size given area tickets ≡ true
+  unfolding digestVerdict
+  has-pages = passed 16 (hasPages size given area tickets) 0 (passed 8 (isOpen w) _ (first-passed (lentVerdict size w list store page) _ none .1) .1) .0
+
+  abbrev asked : ℕ
+  asked = pagesAsked size (body given)
+
+  pub the-regarded-page-can-be-counted : (p : List ℕ) → p ≡ regarded w page → Regardable size p
+  the-regarded-page-can-be-counted p r = the-regarded-is-good size w page p 0 (sym (readiness.rows size w list store page lent-earns-nothing .base)) refl r
+
+  module _ (q : PageSize size) where
+    pub an-accepted-work-is-ready : Ready w list store (regarded w page)
+    an-accepted-work-is-ready = readiness.accepted-things-are-ready size w list store page lent-earns-nothing q
+
+    module _ (k : All EntryKeyed (take (w .used) list)) (rows keys : List (List ℕ)) (same : take (w .used) (listOf rows keys) ≡ take (w .used) list)
+        (used-in : w .used ≤ length (listOf rows keys)) (room : w .count + (count (regarded w page) - w .low) ≤ length (listOf rows keys)) (there : 0 < length (listOf rows keys)) (short : length (listOf rows keys) ≤ mostEntries) where
+      abbrev r : Ready w list store (regarded w page)
+      r = an-accepted-work-is-ready
+
+      pub the-pending-records-are-the-same : pendingOf w (listOf rows keys) store (regarded w page) ≡ pendingOf w list store (regarded w page)
+      the-pending-records-are-the-same = ap (λ (es : List Entry). recordsHeld store (regarded w page) (placesOf (regarded w page) es ++ restPlaces w (regarded w page))) same
+
+      entries : (i : ℕ) → i < w .used → EntryIn (w .low) (w .filled) (getD (listOf rows keys) i blank)
+      entries i h =
+          let e : getD (listOf rows keys) i blank ≡ getD list i blank =
+          sym (getD-take (w .used) (listOf rows keys) i blank h) ∙ ap (λ (es : List Entry). getD es i blank) same ∙ getD-take (w .used) list i blank h in
+          rw e (r .entries i h)
+
+      ready-over : Ready w (listOf rows keys) store (regarded w page)
+      ready-over = record {
+        used-in = used-in;
+        filled-in = r .filled-in;
+        low-in = r .low-in;
+        entries = entries;
+        used-few = r .used-few;
+        filled-few = r .filled-few;
+        list-room = room;
+        store-room = r .store-room;
+        laid = r .laid;
+        rising = r .rising;
+        list-there = there;
+        list-short = short;
+        store-short = r .store-short;
+        page-short = r .page-short;
+      }
+
+      same-pending : given ≡ pendingOf w (listOf rows keys) store (regarded w page)
+      same-pending = sym the-pending-records-are-the-same
+
+      gives : Gives size w rows keys store (regarded w page) area tickets
+      gives = record {
+        sized = q;
+        ready = ready-over;
+        keyed = subst (All Keyed) same-pending (rw (pending-parts w list store (regarded w page)) (pending-keys-have-32-bytes size q w list store page lent-earns-nothing k));
+        light = subst (All (Light size)) same-pending (rw (pending-parts w list store (regarded w page)) (pending-values-are-light size q w list store page lent-earns-nothing));
+        rise = ap keysRise the-pending-records-are-the-same ∙ readiness.c size w list store page lent-earns-nothing .keys-rise;
+        counted = ap length the-pending-records-are-the-same ∙ the-pending-records-are-counted size w list store page lent-earns-nothing;
+        summed = ap total the-pending-records-are-the-same ∙ the-pending-values-are-summed size w list store page lent-earns-nothing;
+        area-room = subst (λ (rs : List Record). pagesAsked size (body rs) * size ≤ length area) same-pending (leb-true (asked * size) (length area) (and-left (leb (asked * size) (length area)) (leb (asked * 65) (length tickets)) has-pages));
+        ticket-room = subst (λ (rs : List Record). pagesAsked size (body rs) * 65 ≤ length tickets) same-pending (leb-true (asked * 65) (length tickets) (and-right (leb (asked * size) (length area)) (leb (asked * 65) (length tickets)) has-pages));
+      }
+
+      pub an-accepted-work-can-be-digested-over : (p : List ℕ) → p ≡ regarded w page → Digests size w rows keys store p area tickets
+      an-accepted-work-can-be-digested-over p e = rw e (record {
+        gives = gives;
+        in-place = rw same (readiness.in-place size w list store page lent-earns-nothing);
+        unused = readiness.unused-bytes-are-zero size w list store page lent-earns-nothing;
+      })
+
+-- ---- the call
 
 module _ (size : ℕ) (w : Work) (rows keys : List (List ℕ)) (store page area tickets : List ℕ) (v : ℕ)
     (e : v ≡ digestVerdict size w (pendingOf w (listOf rows keys) store (regarded w page)) area tickets (lentVerdict size w (listOf rows keys) store page)) where
@@ -73,48 +156,21 @@ module _ (size : ℕ) (w : Work) (rows keys : List (List ℕ)) (store page area 
     none : number ≡ 0
     none = sym e ∙ z
 
-    pub lent-earns-nothing : lentVerdict size w (listOf rows keys) store page ≡ 0
-    unfolding digestVerdict
-    lent-earns-nothing = first-passed (lentVerdict size w list store page) _ none .0
-
-    has-pages : hasPages size pending area tickets ≡ true
-    unfolding digestVerdict
-    has-pages = passed 16 (hasPages size pending area tickets) 0 (passed 8 (isOpen w) _ (first-passed (lentVerdict size w list store page) _ none .1) .1) .0
-
-    abbrev asked : ℕ
-    asked = pagesAsked size (body pending)
-
-    pub the-regarded-page-can-be-counted : (p : List ℕ) → p ≡ regarded w page → Regardable size p
-    the-regarded-page-can-be-counted p r = the-regarded-is-good size w page p 0 (sym (readiness.rows size w list store page lent-earns-nothing .base)) refl r
+    pub the-page-can-be-counted : (p : List ℕ) → p ≡ regarded w page → Regardable size p
+    the-page-can-be-counted = the-regarded-page-can-be-counted size w list store page area tickets none
 
     module _ (q : PageSize size) (k : All IsKey keys) where
       ready : Ready w list store (regarded w page)
-      ready = readiness.accepted-things-are-ready size w list store page lent-earns-nothing q
+      ready = an-accepted-work-is-ready size w list store page area tickets none q
 
       keyed-entries : All EntryKeyed (take (w .used) list)
       keyed-entries =
           let a : All EntryKeyed list = rw (rows-and-keys-agree rows keys (ready .list-there) .1) (entries-keyed rows k) in
           all-left (take (w .used) list) (drop (w .used) list) (rw (take-append-drop (w .used) list) a)
 
-      gives : Gives size w rows keys store (regarded w page) area tickets
-      gives = record {
-        sized = q;
-        ready = ready;
-        keyed = rw (pending-parts w list store (regarded w page)) (pending-keys-have-32-bytes size q w list store page lent-earns-nothing keyed-entries);
-        light = rw (pending-parts w list store (regarded w page)) (pending-values-are-light size q w list store page lent-earns-nothing);
-        rise = readiness.c size w list store page lent-earns-nothing .keys-rise;
-        counted = the-pending-records-are-counted size w list store page lent-earns-nothing;
-        summed = the-pending-values-are-summed size w list store page lent-earns-nothing;
-        area-room = leb-true (asked * size) (length area) (and-left (leb (asked * size) (length area)) (leb (asked * 65) (length tickets)) has-pages);
-        ticket-room = leb-true (asked * 65) (length tickets) (and-right (leb (asked * size) (length area)) (leb (asked * 65) (length tickets)) has-pages);
-      }
-
       pub an-accepted-work-can-be-digested : (p : List ℕ) → p ≡ regarded w page → Digests size w rows keys store p area tickets
-      an-accepted-work-can-be-digested p r = rw r (record {
-        gives = gives;
-        in-place = readiness.in-place size w list store page lent-earns-nothing;
-        unused = readiness.unused-bytes-are-zero size w list store page lent-earns-nothing;
-      })
+      an-accepted-work-can-be-digested =
+          an-accepted-work-can-be-digested-over size w list store page area tickets none q keyed-entries rows keys refl (ready .used-in) (ready .list-room) (ready .list-there) (ready .list-short)
 
     taken : o ≡ outcome.digestDone size w list store area tickets (plan size (cutoffOf w) pending)
     unfolding outcome.digestOn

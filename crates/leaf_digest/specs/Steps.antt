@@ -7,6 +7,8 @@ use lib.ListN.{take, drop}
 use Rattle.leaf_node.specs.Page.{count, valuesSize}
 use Rattle.leaf_model.specs.Work.{Waiting, Done, zeroKey}
 use Rattle.leaf_work.specs.declared.Work.{Work}
+use Rattle.leaf_work.specs.declared.Entry.{Entry}
+use Rattle.leaf_work.specs.Verdict.{lentVerdict}
 use Rattle.leaf_work.specs.Tests.{every, isZero, isSet, bit, oneOf}
 use Rattle.leaf_work.specs.Lent.{turnNumber}
 use Rattle.leaf_work.specs.Flat.{listOf, rowOf}
@@ -16,6 +18,12 @@ use Rattle.leaf_cut.specs.declared.Gauge.{Gauge}
 use Rattle.leaf_give.specs.Giving.{Gives}
 use Rattle.leaf_digest.specs.declared.Digested.{Digested}
 use Rattle.leaf_digest.specs.Reply.{replyOf, cutoffBeside}
+
+-- Nos. 1 to 8 of what is lent beside the page came to this number
+pub record Judged (size : ℕ) (w : Work) (page : List ℕ) (lent : ℕ) : Type 0 where
+  pub list : List Entry
+  pub store : List ℕ
+  pub is : lent ≡ lentVerdict size w list store page
 
 -- "B is the body size of all pending records": what is listed, and the base's rest from `low` on
 unfoldable pub bodyWith : Gauge → List ℕ → ℕ → ℕ

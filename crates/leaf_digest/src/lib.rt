@@ -14,12 +14,14 @@ use refusal::OUT_OF_TURN;
 use refusal::SHORT_AREA;
 ghost use mathlib.Core.Path.{_≡_};
 ghost use mathlib.Core.Bool.{_&&_};
-ghost use Prim.Native.Nat.{_*_, _≤_};
+ghost use mathlib.Core.List.{List};
+ghost use Prim.Native.Nat.{ℕ, _*_, _≤_};
 ghost use lib.Dec.{leb};
 ghost use lib.ListN.{length};
 ghost use Rattle.leaf_node.specs.Limits.{PageSize, pagesAsked};
 ghost use Rattle.leaf_node.specs.Page.{count};
 ghost use Rattle.leaf_node.specs.Fits.{All};
+ghost use Rattle.leaf_work.specs.declared.Entry as declared;
 ghost use Rattle.leaf_work.specs.Lent.{regarded};
 ghost use Rattle.leaf_work.specs.Flat.{listOf, rowsAfter, keysAfter};
 ghost use Rattle.leaf_work.specs.Pending.{pendingOf};
@@ -29,7 +31,7 @@ ghost use Rattle.leaf_cut.specs.Steps.{Modest};
 ghost use Rattle.leaf_work.specs.Digest as outcome;
 ghost use Rattle.leaf_give.specs.Giving.{planned};
 ghost use Rattle.leaf_digest.specs.Reply.{replyOf, cutoffBeside};
-ghost use Rattle.leaf_digest.specs.Steps.{bodyWith, workWith, Digests, Leaves};
+ghost use Rattle.leaf_digest.specs.Steps.{Judged, bodyWith, workWith, Digests, Leaves};
 
 // A refusal, the leaves of a digest that is done, or those of one that waits for a merge.
 pub enum Gave {
@@ -64,23 +66,20 @@ fn has_area(
     has_pages(pending_gauge(listed, page, n, low), area, tickets, size)
 }
 
-// The refusal that a digest earns, or 0.
-pub fn digest_verdict(
+// The refusal that a digest earns, or 0, by the one that the lent things earn.
+pub fn turn_verdict(
     work: Work,
-    rows: &[[usize; 5]],
-    keys: &[[u8; 32]],
-    store: &[u8],
+    lent: u8,
     page: &[u8],
     area: &[u8],
     tickets: &[u8],
     size: usize,
 ) -> u8
-    requires { ⌜ PageSize size ⌝ }
-    ensures { λ r. ⌜ r ≡ digestVerdict size work (pendingOf work (listOf (now (rows .entry)) (now (keys .entry))) (now (store .entry)) (regarded work (now (page .entry)))) (now (area .entry)) (now (tickets .entry)) (lentVerdict size work (listOf (now (rows .entry)) (now (keys .entry))) (now (store .entry)) (now (page .entry))) ⌝ }
+    requires { ⌜ (PageSize size) × (Judged size work (now page) lent) ⌝ }
+    ensures { λ r. ⌜ ((list : List declared.Entry) → (store : List ℕ) → lent ≡ lentVerdict size work list store (now (page .entry)) → r ≡ digestVerdict size work (pendingOf work list store (regarded work (now (page .entry)))) (now (area .entry)) (now (tickets .entry)) (lentVerdict size work list store (now (page .entry)))) ⌝ }
 {
-    let v = lent_verdict(work, rows, keys, store, page, size);
-    if v != 0 {
-        return v;
+    if lent != 0 {
+        return lent;
     }
     if work.turn != 1 {
         return OUT_OF_TURN;
@@ -100,6 +99,24 @@ pub fn digest_verdict(
         return SHORT_AREA;
     }
     0
+}
+
+// The refusal that a digest of rows and keys earns, or 0.
+fn digest_verdict(
+    work: Work,
+    rows: &[[usize; 5]],
+    keys: &[[u8; 32]],
+    store: &[u8],
+    page: &[u8],
+    area: &[u8],
+    tickets: &[u8],
+    size: usize,
+) -> u8
+    requires { ⌜ PageSize size ⌝ }
+    ensures { λ r. ⌜ r ≡ digestVerdict size work (pendingOf work (listOf (now (rows .entry)) (now (keys .entry))) (now (store .entry)) (regarded work (now (page .entry)))) (now (area .entry)) (now (tickets .entry)) (lentVerdict size work (listOf (now (rows .entry)) (now (keys .entry))) (now (store .entry)) (now (page .entry))) ⌝ }
+{
+    let lent = lent_verdict(work, rows, keys, store, page, size);
+    turn_verdict(work, lent, page, area, tickets, size)
 }
 
 // ---- what a digest leaves behind
@@ -131,7 +148,7 @@ fn digest_work(work: Work, left: Gauge, separator: [u8; 32]) -> Work
 }
 
 // A digest of a work whose lent things earn no refusal and whose leaves have room. `page` is as the work regards it and has n records.
-fn digest_ready(
+pub fn digest_ready(
     work: Work,
     rows: &mut [[usize; 5]],
     keys: &mut [[u8; 32]],
@@ -180,7 +197,7 @@ fn key_length(key: &[u8; 32]) -> usize
 }
 
 // That a key of the list has 32 bytes is known of one that was read. The loop finds out nothing else, and the compiler drops it.
-fn read_keys(keys: &[[u8; 32]])
+pub fn read_keys(keys: &[[u8; 32]])
     ensures { λ _. ⌜ All (λ k. length k ≡ 32) (now (keys .entry)) ⌝ }
 {
     let mut i = 0;

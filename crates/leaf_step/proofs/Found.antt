@@ -183,7 +183,7 @@ module _ (w : Work) (page : List ℕ) (at : Passing) (entries : ℕ) (store : Li
 
 -- ---- what the pass of a call that reads the base gives
 
-beginning-bounds : (w : Work) (page : List ℕ) → beginningOf 4096 w page .bounds ≡ boundsOf 4096 w
+pub beginning-bounds : (w : Work) (page : List ℕ) → beginningOf 4096 w page .bounds ≡ boundsOf 4096 w
 unfolding beginningOf
 beginning-bounds w page = go (isZero (pageNumber 4096 w page)) refl
   where

@@ -2,11 +2,9 @@
 // document 01's numbers. No call has a `requires`. An enum can't cross to C, so replies are structs of numbers; `specs/`
 // says which one stands for each case.
 use leaf_entries::drain;
-use leaf_entries::gather;
 use leaf_entries::insert;
 use leaf_entries::pass_entries;
 use leaf_entries::seek_entries;
-use leaf_entries::split;
 use leaf_node::Cell;
 use leaf_node::GetReply;
 use leaf_node::KeyReply;
@@ -14,6 +12,7 @@ use leaf_node::SizeReply;
 use leaf_node::ValueReply;
 use leaf_passed::begin_seek;
 use leaf_pending::TwinPlace;
+use leaf_split::digest_list;
 use leaf_step::next_base_step;
 use leaf_step::open_step;
 use leaf_step::part_step;
@@ -24,10 +23,6 @@ use leaf_step::twin_step;
 use leaf_take::LeafReport;
 use leaf_take::ingest_step;
 use leaf_within::LeafGave;
-use leaf_within::blank_keys;
-use leaf_within::blank_rows;
-use leaf_within::digest_within;
-use leaf_within::split_count;
 use leaf_work::Entry;
 use leaf_work::Work;
 ghost use mathlib.Core.Path.{_≡_};
@@ -295,20 +290,7 @@ pub extern "C" fn leaf_digest(
 ) -> LeafGave
     ensures { λ r. ⌜ DigestSays (now (work .entry)) (now (list .entry)) (now (store .entry)) (now (page .entry)) (now (area .entry)) (now (tickets .entry)) r (now (work .exit)) (now (list .exit)) (now (store .exit)) (now (area .exit)) (now (tickets .exit)) ⌝ }
 {
-    let mut rows = blank_rows();
-    let mut keys = blank_keys();
-    split(list, &mut rows, &mut keys, split_count(list.len()));
-    let step = digest_within(
-        *work,
-        &mut rows,
-        &mut keys,
-        list.len(),
-        store,
-        page,
-        area,
-        tickets,
-    );
-    gather(list, &rows, &keys, step.count);
+    let step = digest_list(*work, list, store, page, area, tickets);
     *work = step.work;
     step.reply
 }

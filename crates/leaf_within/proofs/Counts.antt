@@ -1,33 +1,94 @@
--- How many entries are split, and what a digest gives back, case by case. Assumes nothing.
-use mathlib.Core.Path.{_≡_, refl}
+-- How many entries are split and given back, and what a digest answers, case by case. Assumes nothing.
+use mathlib.Core.Path.{_≡_, refl, sym, _∙_}
+use mathlib.Core.Bool.{Bool, true, false}
 use mathlib.Core.List.{List}
-use Prim.Native.Nat.{ℕ, _≤_, _<_}
+use Prim.Native.Nat.{ℕ, _+_, _-_, _≤_, _<_}
 use native.Mathlib.Omega.{arith}
-use borrow.Author.Tests.{eq-eqb, ne-eqb, le-leb, lt-leb}
-use Rattle.refusal.specs.Refusal.{roomLength}
+use lib.Dec.{ltb, leb}
+use borrow.Author.Tests.{lt-ltb, le-ltb, ltb-true, ltb-false, le-leb, lt-leb, leb-true, leb-false}
 use Rattle.leaf_model.specs.Work.{zeroKey}
 use Rattle.leaf_work.specs.declared.Work.{Work}
-use Rattle.leaf_work.specs.Verdict.{first}
+use Rattle.leaf_work.specs.Tests.{oneOf}
+use Rattle.leaf_work.specs.Lent.{mostEntries}
+use Rattle.leaf_passed.specs.Behind.{firstCount}
 use Rattle.leaf_digest.specs.declared.Gave.{Gave}
 use Rattle.leaf_digest.specs.declared.Gave.the-variants as gave
 use Rattle.leaf_digest.specs.Reply.{replyOf}
 use Rattle.leaf_work.specs.Digest.{DigestRefused}
 use Rattle.leaf_within.specs.declared.DigestStep.{DigestStep}
-use Rattle.leaf_within.specs.Within.{splitCount, stepOf}
+use Rattle.leaf_within.specs.Within.{most, atMost, splitCount, stepOf}
+
+module _ (a b : ℕ) where
+  pub the-first-is-lesser : a < b → a ≡ firstCount a b
+  unfolding firstCount
+  the-first-is-lesser h = rw (lt-ltb a b h)
+
+  pub the-second-is-lesser : b ≤ a → b ≡ firstCount a b
+  unfolding firstCount
+  the-second-is-lesser h = rw (le-ltb a b h)
+
+  pub the-second-is-greater : a < b → b ≡ most a b
+  unfolding most
+  the-second-is-greater h = rw (lt-ltb a b h)
+
+  pub the-first-is-greater : b ≤ a → a ≡ most a b
+  unfolding most
+  the-first-is-greater h = rw (le-ltb a b h)
+
+  -- the lesser is one of the two, and not above the other
+  pub lesser-bounds : (firstCount a b ≤ b) × (firstCount a b ≤ a) × (firstCount a b < b → firstCount a b ≡ a)
+  unfolding firstCount
+  lesser-bounds = go (ltb a b) refl
+    where
+      go : (t : Bool) → ltb a b ≡ t → (oneOf t a b ≤ b) × (oneOf t a b ≤ a) × (oneOf t a b < b → oneOf t a b ≡ a)
+      go true e = let l = ltb-true a b e in (omega (arith, l), omega arith, λ _. refl)
+      go false e = let l = ltb-false a b e in (omega arith, l, λ h. absurd (omega (arith, h)))
+
+  pub greater-bounds : (a ≤ most a b) × (b ≤ most a b)
+  unfolding most
+  greater-bounds = go (ltb a b) refl
+    where
+      go : (t : Bool) → ltb a b ≡ t → (a ≤ oneOf t b a) × (b ≤ oneOf t b a)
+      go true e = let l = ltb-true a b e in (omega (arith, l), omega arith)
+      go false e = let l = ltb-false a b e in (omega arith, l)
+
+  pub the-greater-is-within : (k : ℕ) → a ≤ k → b ≤ k → most a b ≤ k
+  unfolding most
+  the-greater-is-within k h l = go (ltb a b)
+    where
+      go : (t : Bool) → oneOf t b a ≤ k
+      go true = l
+      go false = h
 
 module _ (entries : ℕ) where
-  pub a-short-list-is-split-whole : entries ≤ 4096 → (entries ≡ splitCount entries) × (entries ≤ entries) × (entries ≤ 4096)
-  a-short-list-is-split-whole h = (rw (splitCount, le-leb entries 4096 h), omega arith, h)
+  pub a-short-list-is-all-there : entries ≤ 4096 → entries ≡ atMost entries
+  unfolding atMost
+  a-short-list-is-all-there h = rw (le-leb entries 4096 h)
 
-  pub a-long-list-is-split-in-part : 4096 < entries → (4096 ≡ splitCount entries) × (4096 ≤ entries) × (4096 ≤ 4096)
-  a-long-list-is-split-in-part h = (rw (splitCount, lt-leb entries 4096 h), omega arith, omega arith)
+  a-long-list-is-there-in-part : 4096 < entries → 4096 ≡ atMost entries
+  unfolding atMost
+  a-long-list-is-there-in-part h = rw (lt-leb entries 4096 h)
 
-module _ (v w : ℕ) (e : v ≡ w) where
-  pub a-bad-page-comes-first : (v ≡ 0 → ⊥) → v ≡ first w roomLength
-  a-bad-page-comes-first h = rw (← e, first, ne-eqb v 0 h) e
+  pub no-more-than-there-is : (atMost entries ≤ entries) × (atMost entries ≤ 4096) × (atMost entries < entries → atMost entries ≡ 4096)
+  unfolding atMost
+  no-more-than-there-is = go (leb entries mostEntries) refl
+    where
+      go : (t : Bool) → leb entries mostEntries ≡ t → (oneOf t entries mostEntries ≤ entries) × (oneOf t entries mostEntries ≤ 4096) × (oneOf t entries mostEntries < entries → oneOf t entries mostEntries ≡ 4096)
+      go true e = (omega arith, leb-true entries mostEntries e, λ h. absurd (omega (arith, h)))
+      go false e = let l = leb-false entries mostEntries e in (omega (arith, l), omega arith, λ _. refl)
 
-  pub then-the-list-is-too-long : v ≡ 0 → roomLength ≡ first w roomLength
-  then-the-list-is-too-long z = rw (← e, z, first)
+  module _ (w : Work) (r : ℕ) where
+    pub a-short-list-is-split : entries ≤ 4096 → r ≡ firstCount (w .used) entries → (r ≡ splitCount w entries) × (r ≤ entries) × (r ≤ atMost entries)
+    a-short-list-is-split h e =
+        let b = lesser-bounds (w .used) entries in
+        let a = a-short-list-is-all-there h in
+        (rw (← a) e, omega (arith, b .0, e), omega (arith, b .0, e, a))
+
+    pub a-long-list-is-split : 4096 < entries → r ≡ firstCount (w .used) 4096 → (r ≡ splitCount w entries) × (r ≤ entries) × (r ≤ atMost entries)
+    a-long-list-is-split h e =
+        let b = lesser-bounds (w .used) 4096 in
+        let a = a-long-list-is-there-in-part h in
+        (rw (← a) e, omega (arith, b .0, e), omega (arith, b .0, e, a))
 
 module _ (reply : Gave) (cutoff : List ℕ) (w : Work) (entries : ℕ) where
   pub a-refusal-gives-back-nothing : (n : ℕ) → reply ≡ gave.Refused n → (r : DigestStep) → r ≡ stepOf (DigestRefused n) w 0 → r ≡ stepOf (replyOf reply cutoff) w entries

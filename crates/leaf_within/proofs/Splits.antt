@@ -23,26 +23,19 @@ use Rattle.leaf_within.specs.Within.{splitCount, SplitFrom}
 abbrev pub keysOf : List Entry → List (List ℕ)
 keysOf es = map (λ (e : Entry). e .key) es
 
-entries-of-rows : (es : List Entry) → entriesOf (map rowOf es) (keysOf es) ≡ es
+pub entries-of-rows : (es : List Entry) → entriesOf (map rowOf es) (keysOf es) ≡ es
 entries-of-rows [] = refl
 entries-of-rows (e ∷ es) = ap (λ (t : List Entry). e ∷ t) (entries-of-rows es)
 
-pub rows-and-keys-stand-for-the-list : (es : List Entry) → listOf (map rowOf es) (keysOf es) ≡ es
+rows-and-keys-stand-for-the-list : (es : List Entry) → listOf (map rowOf es) (keysOf es) ≡ es
 rows-and-keys-stand-for-the-list es =
     let n : length (map rowOf es) ≡ length (keysOf es) = length-map es rowOf ∙ sym (length-map es (λ (e : Entry). e .key)) in
     rw (listOf, eq-eqb (length (map rowOf es)) (length (keysOf es)) n) (entries-of-rows es)
 
-module _ (list : List Entry) (entries : ℕ) (l : length list ≡ entries) (m : entries ≤ 4096) (rows keys : List (List ℕ)) (s : SplitFrom list rows keys) where
-  all-split : take (splitCount (length list)) list ≡ list
-  all-split = rw (splitCount, le-leb (length list) 4096 (omega arith)) (take-length list)
-
-  pub the-rows-are-the-lists : take entries rows ≡ map rowOf list
-  the-rows-are-the-lists =
-      ap (take entries) (s .rows-are ∙ ap (λ (es : List Entry). laid (map rowOf es) (s .rows₀)) all-split) ∙ take-at (map rowOf list) _ entries (length-map list rowOf ∙ l)
-
-  pub the-keys-are-the-lists : take entries keys ≡ keysOf list
-  the-keys-are-the-lists =
-      ap (take entries) (s .keys-are ∙ ap (λ (es : List Entry). laid (keysOf es) (s .keys₀)) all-split) ∙ take-at (keysOf list) _ entries (length-map list (λ (e : Entry). e .key) ∙ l)
+-- rows and keys that begin with those of a list
+pub entries-in-front : (es : List Entry) (rs ks : List (List ℕ)) → entriesOf (map rowOf es ++ rs) (keysOf es ++ ks) ≡ es ++ entriesOf rs ks
+entries-in-front [] rs ks = refl
+entries-in-front (e ∷ es) rs ks = ap (λ (t : List Entry). e ∷ t) (entries-in-front es rs ks)
 
 -- ---- entries whose kind and flag are bytes come back from their rows
 
@@ -72,8 +65,3 @@ blanks-narrow (suc n) = cons {x = blank} (omega arith, omega arith) (blanks-narr
 
 pub a-digests-list-is-gathered-again : (rs : List Record) (n : ℕ) → gathered (map rowOf (insertsOf 0 rs ++ replicate n blank)) (keysOf (insertsOf 0 rs ++ replicate n blank)) ≡ insertsOf 0 rs ++ replicate n blank
 a-digests-list-is-gathered-again rs n = gathered-again (all-append (inserts-narrow 0 rs) (blanks-narrow n))
-
--- ---- what is laid over a whole list, and over nothing of it
-
-pub laid-over-all : (new old : List Entry) → length new ≡ length old → laid new old ≡ new
-laid-over-all new old h = rw (h, drop-of-length-le old {i = length old} (omega arith)) (append-nil new)

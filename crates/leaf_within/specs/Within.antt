@@ -1,35 +1,84 @@
--- A list split into rows and keys, of which the first entries are the list's.
+-- A list whose used entries were split into rows and keys, and what a digest gives back of them.
 use mathlib.Core.Path.{_≡_}
 use mathlib.Core.Bool.{true, false}
 use mathlib.Core.List.{List, map}
-use Prim.Native.Nat.{ℕ}
-use lib.Dec.{leb}
+use Prim.Native.Nat.{ℕ, _+_, _-_, _≤_}
+use lib.Dec.{leb, ltb}
 use lib.ListN.{length, take}
 use Rattle.leaf_work.specs.declared.Work.{Work}
 use Rattle.leaf_work.specs.declared.Entry.{Entry}
-use Rattle.leaf_work.specs.Lent.{mostEntries}
+use Rattle.leaf_work.specs.Tests.{oneOf}
+use Rattle.leaf_work.specs.Lent.{mostEntries, regarded}
 use Rattle.leaf_work.specs.Flat.{rowOf}
-use Rattle.leaf_work.specs.Digest.{DigestReply, DigestRefused, Finished, Merge}
-use Rattle.leaf_entries.specs.Lists.{laid}
+use Rattle.leaf_work.specs.Pending.{pendingOf}
+use Rattle.leaf_work.specs.Verdict.{lentVerdict, digestVerdict}
+use Rattle.leaf_work.specs.Digest.{DigestReply, DigestRefused, Finished, Merge, Digested}
+use Rattle.leaf_passed.specs.declared.Unused.{Unused}
+use Rattle.leaf_passed.specs.Behind.{firstCount, unusedFrom, unusedOver}
+use Rattle.leaf_entries.specs.Lists.{laid, gathered}
 use Rattle.leaf_within.specs.declared.DigestStep.{DigestStep}
 use Rattle.leaf_within.specs.Reply.{gaveOut}
 
--- how many entries of a list are split: no more than a work takes
-abbrev pub splitCount : ℕ → ℕ
-splitCount entries = elim (leb entries mostEntries) [ true ↦ entries | false ↦ mostEntries ]
+-- ---- counts
 
--- what is given back: all entries, or none where the digest is refused
-abbrev pub givenBack : DigestReply → ℕ → ℕ
-givenBack (DigestRefused n) entries = 0
-givenBack (Finished leaves) entries = entries
-givenBack (Merge leaves cutoff) entries = entries
+unfoldable pub most : ℕ → ℕ → ℕ
+most a b = oneOf (ltb a b) b a
 
-abbrev pub stepOf : DigestReply → Work → ℕ → DigestStep
-stepOf reply w entries = record { reply = gaveOut reply; work = w; count = givenBack reply entries }
+-- a list's entries, and no more than a work takes
+unfoldable pub atMost : ℕ → ℕ
+atMost entries = oneOf (leb entries mostEntries) entries mostEntries
 
--- rows and keys with the first entries of a list
-pub record SplitFrom (list : List Entry) (rows keys : List (List ℕ)) : Type 0 where
+-- the used ones among them
+abbrev pub splitCount : Work → ℕ → ℕ
+splitCount w entries = firstCount (w .used) (atMost entries)
+
+-- a row for each pending record
+abbrev pub rowsNeeded : Work → ℕ → ℕ
+rowsNeeded w n = most 1 (w .count + (n - w .low))
+
+-- ---- before a digest
+
+-- rows and keys begin with the list's used entries, and the others were looked at
+pub record SplitFrom (w : Work) (list : List Entry) (rows keys : List (List ℕ)) (unused : Unused) : Type 0 where
   pub rows₀ : List (List ℕ)
   pub keys₀ : List (List ℕ)
-  pub rows-are : rows ≡ laid (map rowOf (take (splitCount (length list)) list)) rows₀
-  pub keys-are : keys ≡ laid (map (λ e. e .key) (take (splitCount (length list)) list)) keys₀
+  pub rows-are : rows ≡ laid (map rowOf (take (splitCount w (length list)) list)) rows₀
+  pub keys-are : keys ≡ laid (map (λ e. e .key) (take (splitCount w (length list)) list)) keys₀
+  pub looked : unused ≡ unusedOver (unusedFrom (splitCount w (length list))) list
+
+-- there is such a list, with so many entries
+pub record SplitOver (w : Work) (entries : ℕ) (rows keys : List (List ℕ)) (unused : Unused) : Type 0 where
+  pub list : List Entry
+  pub long : length list ≡ entries
+  pub from : SplitFrom w list rows keys unused
+
+-- and its digest earns no refusal
+pub record Accepted (w : Work) (rows keys : List (List ℕ)) (store page area tickets : List ℕ) : Type 0 where
+  pub list : List Entry
+  pub unused : Unused
+  pub from : SplitFrom w list rows keys unused
+  pub none : digestVerdict 4096 w (pendingOf w list store (regarded w page)) area tickets (lentVerdict 4096 w list store page) ≡ 0
+  pub rows-long : atMost (length list) ≤ length rows
+  pub keys-long : atMost (length list) ≤ length keys
+
+-- ---- after it
+
+-- what is given back: the first entries, or none where the digest is refused
+abbrev pub givenBack : DigestReply → ℕ → ℕ
+givenBack (DigestRefused n) count = 0
+givenBack (Finished leaves) count = count
+givenBack (Merge leaves cutoff) count = count
+
+abbrev pub stepOf : DigestReply → Work → ℕ → DigestStep
+stepOf reply w count = record { reply = gaveOut reply; work = w; count = givenBack reply count }
+
+-- what a digest with the outcome o leaves of its list, by the rows and keys that are given back
+pub record Gathers (o : Digested) (list : List Entry) (r : DigestStep) (rows′ keys′ : List (List ℕ)) (store′ area′ tickets′ : List ℕ) : Type 0 where
+  pub reply-is : r .reply ≡ gaveOut (o .reply)
+  pub work-is : r .work ≡ o .work
+  pub list-is : laid (gathered (take (r .count) rows′) (take (r .count) keys′)) list ≡ o .list
+  pub store-is : store′ ≡ o .store
+  pub area-is : area′ ≡ o .area
+  pub tickets-are : tickets′ ≡ o .tickets
+  pub few : r .count ≤ length list
+  pub fewer : r .count ≤ atMost (length list)

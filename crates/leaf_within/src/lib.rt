@@ -1,24 +1,36 @@
-// The digest of a list that was split into rows and keys, in room for as many entries as a work takes.
+// The digest of a list whose used entries were split into rows and keys, and whose other entries were looked at.
 use leaf_base::MOST_ENTRIES;
-use leaf_check::page_verdict;
+use leaf_check::records_in;
+use leaf_check::regard;
 use leaf_digest::Gave;
-use leaf_digest::digest;
+use leaf_digest::digest_ready;
+use leaf_digest::read_keys;
+use leaf_digest::turn_verdict;
 use leaf_node::PAGE_SIZE;
+use leaf_pass::pass_list;
+use leaf_passed::Passing;
+use leaf_passed::Unused;
+use leaf_passed::begin_pass;
+use leaf_passed::lent_at;
+use leaf_passed::mark;
+use leaf_passed::read_if;
 use leaf_work::Work;
-use refusal::ROOM_LENGTH;
 ghost use mathlib.Core.Path.{_≡_};
 ghost use mathlib.Core.List.{List};
 ghost use Prim.Native.Nat.{ℕ, _≤_};
-ghost use lib.ListN.{length, take};
+ghost use lib.ListN.{length};
 ghost use Rattle.leaf_work.specs.declared.Entry as declared;
-ghost use Rattle.leaf_work.specs.Verdict.{first};
-ghost use Rattle.leaf_work.specs.Digest as outcome;
-ghost use Rattle.leaf_work.specs.Digest.{DigestRefused};
-ghost use Rattle.leaf_passed.specs.Passed.{pageNumber};
+ghost use Rattle.leaf_work.specs.Lent.{regarded};
+ghost use Rattle.leaf_work.specs.Flat.{entriesOf};
+ghost use Rattle.leaf_work.specs.Pending.{pendingOf};
+ghost use Rattle.leaf_work.specs.Verdict.{lentVerdict, digestVerdict};
+ghost use Rattle.leaf_work.specs.Digest.{DigestRefused, digestOf};
+ghost use Rattle.leaf_passed.specs.declared.Unused as declared-unused;
+ghost use Rattle.leaf_passed.specs.Passed.{PassingOn, passedOver};
+ghost use Rattle.leaf_passed.specs.Behind.{firstCount};
 ghost use Rattle.leaf_digest.specs.Reply as gave;
-ghost use Rattle.leaf_entries.specs.Lists.{laid, gathered};
 ghost use Rattle.leaf_within.specs.Reply.{gaveOut};
-ghost use Rattle.leaf_within.specs.Within.{splitCount, SplitFrom, stepOf};
+ghost use Rattle.leaf_within.specs.Within.{most, atMost, splitCount, rowsNeeded, SplitFrom, SplitOver, Accepted, stepOf, Gathers};
 
 // A digest's answer: 0 or the refusal, whether it waits for a merge, 1 or 0, how many leaves it gave, and the cutoff for which it waits,
 // else zeros.
@@ -37,39 +49,91 @@ pub struct DigestStep {
     pub count: usize,
 }
 
-// How many entries of a list are split into rows and keys.
-pub fn split_count(entries: usize) -> usize
-    ensures { λ r. ⌜ (r ≡ splitCount entries) × (r ≤ entries) × (r ≤ 4096) ⌝ }
+// ---- counts
+
+// The lesser and the greater of two numbers.
+fn lesser(a: usize, b: usize) -> usize
+    ensures { λ r. ⌜ r ≡ firstCount a b ⌝ }
+{
+    if a < b {
+        return a;
+    }
+    b
+}
+
+fn greater(a: usize, b: usize) -> usize
+    ensures { λ r. ⌜ r ≡ most a b ⌝ }
+{
+    if a < b {
+        return b;
+    }
+    a
+}
+
+// How many entries of a list are split into rows and keys: the used ones, and no more than a work takes.
+pub fn split_count(work: Work, entries: usize) -> usize
+    ensures { λ r. ⌜ (r ≡ splitCount work entries) × (r ≤ entries) × (r ≤ atMost entries) ⌝ }
 {
     if entries <= MOST_ENTRIES {
-        return entries;
+        return lesser(work.used, entries);
     }
-    MOST_ENTRIES
+    lesser(work.used, MOST_ENTRIES)
 }
 
-// Room for the rows and keys of a list.
-pub fn blank_rows() -> [[usize; 5]; 4096]
-    ensures { λ r. ⌜ length r ≡ 4096 ⌝ }
+// How many rows a digest needs: one for each pending record, so that those which it keeps have room; the base has n records.
+fn rows_needed(work: Work, n: usize) -> usize
+    requires { ⌜ (work .low ≤ n) × (work .count ≤ 4096) × (n ≤ 32767) ⌝ }
+    ensures { λ r. ⌜ r ≡ rowsNeeded work n ⌝ }
 {
-    [[0usize; 5]; 4096]
+    greater(1, work.count + (n - work.low))
 }
 
-pub fn blank_keys() -> [[u8; 32]; 4096]
-    ensures { λ r. ⌜ length r ≡ 4096 ⌝ }
-{
-    [[0u8; 32]; 4096]
-}
+// ---- the number
 
-// The number of a list that is longer than a work takes: the page's, else 7.
-fn list_number(work: Work, page: &[u8]) -> u8
-    ensures { λ r. ⌜ r ≡ first (pageNumber 4096 work (now (page .entry))) 7 ⌝ }
+// The pass over rows and keys.
+fn pass_rows(at: Passing, rows: &[[usize; 5]], keys: &[[u8; 32]], page: &[u8]) -> Passing
+    requires { ⌜ (PassingOn at (now page)) × (length (now rows) ≡ length (now keys)) ⌝ }
+    ensures { λ r. ⌜ (r ≡ passedOver (now (page .entry)) at (entriesOf (now (rows .entry)) (now (keys .entry)))) × (PassingOn r (now (page .entry))) ⌝ }
 {
-    let number = page_verdict(work, page, PAGE_SIZE);
-    if number != 0 {
-        return number;
+    if !at.go {
+        return at;
     }
-    ROOM_LENGTH
+    let bounds = at.bounds;
+    let pass = pass_list(bounds, at.pass, rows, keys, read_if(at.reads, page), at.n);
+    Passing {
+        number: at.number,
+        go: at.go,
+        reads: at.reads,
+        n: at.n,
+        bounds: bounds,
+        pass: pass,
+    }
 }
+
+// The refusal that a digest of a list with so many entries earns, or 0.
+fn digest_number(
+    work: Work,
+    unused: Unused,
+    rows: &[[usize; 5]],
+    keys: &[[u8; 32]],
+    entries: usize,
+    store: &[u8],
+    page: &[u8],
+    area: &[u8],
+    tickets: &[u8],
+) -> u8
+    requires { ⌜ (SplitOver work entries (now rows) (now keys) unused) × (atMost entries ≤ length (now rows)) × (atMost entries ≤ length (now keys)) ⌝ }
+    ensures { λ r. ⌜ ((list : List declared.Entry) → length list ≡ entries → SplitFrom work list (now (rows .entry)) (now (keys .entry)) unused → r ≡ digestVerdict 4096 work (pendingOf work list (now (store .entry)) (regarded work (now (page .entry)))) (now (area .entry)) (now (tickets .entry)) (lentVerdict 4096 work list (now (store .entry)) (now (page .entry)))) ⌝ }
+{
+    let count = split_count(work, entries);
+    let begun = begin_pass(work, page, PAGE_SIZE);
+    let passed = pass_rows(begun, &rows[..count], &keys[..count], page);
+    let at = mark(passed, unused);
+    let lent = lent_at(work, at, entries, store, page, PAGE_SIZE);
+    turn_verdict(work, lent, page, area, tickets, PAGE_SIZE)
+}
+
+// ---- what a digest answers and leaves
 
 // A refused digest gives back no entries.
 fn refused_digest(work: Work, number: u8) -> DigestStep
@@ -87,9 +151,9 @@ fn refused_digest(work: Work, number: u8) -> DigestStep
     }
 }
 
-// What a digest answers and leaves of a list with so many entries.
-fn step_of(reply: Gave, cutoff: [u8; 32], work: Work, entries: usize) -> DigestStep
-    ensures { λ r. ⌜ r ≡ stepOf (gave.replyOf reply cutoff) work entries ⌝ }
+// An accepted one gives back the first `count`.
+fn step_of(reply: Gave, cutoff: [u8; 32], work: Work, count: usize) -> DigestStep
+    ensures { λ r. ⌜ r ≡ stepOf (gave.replyOf reply cutoff) work count ⌝ }
 {
     match reply {
         Gave::Refused(n) => refused_digest(work, n),
@@ -101,7 +165,7 @@ fn step_of(reply: Gave, cutoff: [u8; 32], work: Work, entries: usize) -> DigestS
                 cutoff: [0u8; 32],
             },
             work: work,
-            count: entries,
+            count: count,
         },
         Gave::Merge(leaves) => DigestStep {
             reply: LeafGave {
@@ -111,14 +175,49 @@ fn step_of(reply: Gave, cutoff: [u8; 32], work: Work, entries: usize) -> DigestS
                 cutoff: cutoff,
             },
             work: work,
-            count: entries,
+            count: count,
         },
     }
+}
+
+// A digest that earns no refusal. Only the entries that were used or are used now are given back.
+fn digest_split(
+    work: Work,
+    rows: &mut [[usize; 5]],
+    keys: &mut [[u8; 32]],
+    store: &mut [u8],
+    page: &[u8],
+    area: &mut [u8],
+    tickets: &mut [u8],
+) -> DigestStep
+    requires { ⌜ Accepted work (now rows) (now keys) (now store) (now page) (now area) (now tickets) ⌝ }
+    ensures { λ r. ⌜ ((list : List declared.Entry) → (unused : declared-unused.Unused) → SplitFrom work list (now (rows .entry)) (now (keys .entry)) unused → digestVerdict 4096 work (pendingOf work list (now (store .entry)) (regarded work (now (page .entry)))) (now (area .entry)) (now (tickets .entry)) (lentVerdict 4096 work list (now (store .entry)) (now (page .entry))) ≡ 0 → Gathers (digestOf 4096 work list (now (store .entry)) (now (page .entry)) (now (area .entry)) (now (tickets .entry))) list r (now (rows .exit)) (now (keys .exit)) (now (store .exit)) (now (area .exit)) (now (tickets .exit))) ⌝ }
+{
+    let base = regard(work, page);
+    let n = records_in(base, PAGE_SIZE);
+    read_keys(keys);
+    let room = rows_needed(work, n);
+    let after = digest_ready(
+        work,
+        &mut rows[..room],
+        &mut keys[..room],
+        store,
+        base,
+        n,
+        area,
+        tickets,
+        PAGE_SIZE,
+    );
+    let reply = after.reply;
+    let cutoff = after.cutoff;
+    let next = after.work;
+    step_of(reply, cutoff, next, greater(work.used, next.used))
 }
 
 // A digest of a work whose list has so many entries.
 pub fn digest_within(
     work: Work,
+    unused: Unused,
     rows: &mut [[usize; 5]],
     keys: &mut [[u8; 32]],
     entries: usize,
@@ -127,22 +226,22 @@ pub fn digest_within(
     area: &mut [u8],
     tickets: &mut [u8],
 ) -> DigestStep
-    requires { ⌜ (length (now rows) ≡ 4096) × (length (now keys) ≡ 4096) ⌝ }
-    ensures { λ r. ⌜ ((list : List declared.Entry) → length list ≡ entries → SplitFrom list (now (rows .entry)) (now (keys .entry)) → (let o : outcome.Digested = outcome.digestOf 4096 work list (now (store .entry)) (now (page .entry)) (now (area .entry)) (now (tickets .entry)) in (r .reply ≡ gaveOut (o .reply)) × (r .work ≡ o .work) × (laid (gathered (take (r .count) (now (rows .exit))) (take (r .count) (now (keys .exit)))) list ≡ o .list) × (now (store .exit) ≡ o .store) × (now (area .exit) ≡ o .area) × (now (tickets .exit) ≡ o .tickets))) × (r .count ≤ entries) × (r .count ≤ 4096) ⌝ }
+    requires { ⌜ (SplitOver work entries (now rows) (now keys) unused) × (atMost entries ≤ length (now rows)) × (atMost entries ≤ length (now keys)) ⌝ }
+    ensures { λ r. ⌜ ((list : List declared.Entry) → length list ≡ entries → SplitFrom work list (now (rows .entry)) (now (keys .entry)) unused → Gathers (digestOf 4096 work list (now (store .entry)) (now (page .entry)) (now (area .entry)) (now (tickets .entry))) list r (now (rows .exit)) (now (keys .exit)) (now (store .exit)) (now (area .exit)) (now (tickets .exit))) ⌝ }
 {
-    if MOST_ENTRIES < entries {
-        return refused_digest(work, list_number(work, page));
-    }
-    let after = digest(
+    let number = digest_number(
         work,
-        &mut rows[..entries],
-        &mut keys[..entries],
+        unused,
+        rows,
+        keys,
+        entries,
         store,
         page,
         area,
         tickets,
     );
-    let reply = after.reply;
-    let cutoff = after.cutoff;
-    step_of(reply, cutoff, after.work, entries)
+    if number != 0 {
+        return refused_digest(work, number);
+    }
+    digest_split(work, rows, keys, store, page, area, tickets)
 }

@@ -1,6 +1,6 @@
 -- `leaf_digest::digest` meets its contract.
 -- Assumes nothing.
-use Rattle.leaf_digest.proofs.Calls.{a-refused-digest-changes-nothing, the-regarded-page-can-be-counted, an-accepted-work-can-be-digested, an-accepted-digest-leaves-its-outcome}
+use Rattle.leaf_digest.proofs.Calls.{a-refused-digest-changes-nothing, the-page-can-be-counted, an-accepted-work-can-be-digested, an-accepted-digest-leaves-its-outcome}
 use borrow.Author.Needs.{needs}
 use Rattle.leaf_digest.proofs.digest.Statement.{statement}
 use Rattle.leaf_digest.proofs.digest.Tie as tie
@@ -41,7 +41,7 @@ records-in-requires c κs =
     let tested = accepted .before in
     let args = tested .before .before .before .before .before .before .before .before .before .before .args in (
       search needs,
-      the-regarded-page-can-be-counted _ _ (args .rows .now) (args .keys .now) (args .store .now) (args .page .now) (args .area .now) (args .tickets .now) _ (tested .digest-verdict .ensures) (accepted .if1 .left) _ (c .regard .ensures),
+      the-page-can-be-counted _ _ (args .rows .now) (args .keys .now) (args .store .now) (args .page .now) (args .area .now) (args .tickets .now) _ (tested .digest-verdict .ensures) (accepted .if1 .left) _ (c .regard .ensures),
     )
 
 digest-ready-requires : tie.Need-digest-ready-requires

@@ -82,8 +82,8 @@ use Rattle.leaf_entries.proofs.insert as insert
 use Rattle.leaf_entries.proofs.insert.Symbol as insert-def
 use Rattle.leaf_entries.proofs.insert.Symbol.{name as #leaf-entries·insert}
 use Rattle.leaf_entries.proofs.insert.Met as insert-thm
-use Rattle.leaf_updater.proofs.Shared.{LentShared, shares-again, shared-back}
-use Rattle.leaf_updater.proofs.Again.{LentAgain, lends-again, comes-back}
+use Rattle.leaf_entries.proofs.Shared.{LentShared, shares-again, shared-back}
+use Rattle.leaf_entries.proofs.Again.{LentAgain, lends-again, comes-back}
 use Rattle.leaf_updater.proofs.leaf_ingest.Key.{name as #leaf-updater·leaf-ingest}
 use Rattle.leaf_updater.proofs.leaf_ingest as ingest
 use Rattle.leaf_updater.proofs.leaf_ingest.Statement as stated

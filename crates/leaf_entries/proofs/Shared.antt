@@ -2,7 +2,7 @@
 --     shares-again     own (the `&κ mut [T]`) ∗ [κ]_q  ⊢ ⇛ ∃ γ₁. own (the `&κ′ [T]` under γ₁) ∗ LentShared
 --     shared-back      [†κ′] ∗ LentShared  ⊢ ⇛ (own (the `&κ mut [T]`) ∗ [κ]_q)
 -- Assumes `Given`.
-use mathlib.Core.Path.{refl}
+use mathlib.Core.Path.{_≡_, refl, sym, subst}
 use Prim.Native.Nat.{ℕ}
 use mathlib.Core.List.{List, [], _∷_}
 use lib.ListN.{length}
@@ -51,3 +51,15 @@ module _ (R : RattleType) (κ κ′ : Lft) (q : Share) (γ : GName) (b o : ℕ) 
         qed W (‵ (fdead κ′) ∷ ‵ (LentShared ys) ∷ []) ∵ updating ! $ move ! (1 ∷ []) $ fsplit ! $ move ! (2 ∷ 0 ∷ []) $ lent-back ! tt $ fsplit ! $ drop ! $
         move ! (1 ∷ []) $ fsplit ! $ move ! (1 ∷ []) $ fsplit ! $ move ! (3 ∷ 2 ∷ 0 ∷ 1 ∷ []) $ closes-slice ! tt R ys ys refl b o $ at-once ! $
         fjoin ! $ pureI ! (at-slice R (at-list γ ys) vals) (tt, (tt, tt)) (refl, room) $ fjoin ! $ done !
+
+    -- the same of a slice whose length is known as another number
+    module _ (n : ℕ) (e : length ys ≡ n) where
+      pub shares-again-at : ent 𝓤 (sep 𝓤 (sem 𝓤 H A (MutSlice ℓ κ R .own (at-list γ ys) (sliceVal (b, o) n ∷ []))) (A .lft κ q))
+          (H .⇛ (ex 𝓤 (λ (γ₁ : GName). sep 𝓤 (sem 𝓤 H A (ShrSlice ℓ′ κ′ R .own (at-list γ₁ ys) (sliceVal (b, o) n ∷ []))) (sem 𝓤 H A (LentShared ys)))))
+      shares-again-at =
+          subst (λ (k : ℕ). ent 𝓤 (sep 𝓤 (sem 𝓤 H A (MutSlice ℓ κ R .own (at-list γ ys) (sliceVal (b, o) k ∷ []))) (A .lft κ q))
+          (H .⇛ (ex 𝓤 (λ (γ₁ : GName). sep 𝓤 (sem 𝓤 H A (ShrSlice ℓ′ κ′ R .own (at-list γ₁ ys) (sliceVal (b, o) k ∷ []))) (sem 𝓤 H A (LentShared ys)))))) e shares-again
+
+      pub shared-back-at : Room R n → ent 𝓤 (sep 𝓤 (A .dead κ′) (sem 𝓤 H A (LentShared ys))) (H .⇛ (sep 𝓤 (sem 𝓤 H A (MutSlice ℓ κ R .own (at-list γ ys) (sliceVal (b, o) n ∷ []))) (A .lft κ q)))
+      shared-back-at room =
+          subst (λ (k : ℕ). ent 𝓤 (sep 𝓤 (A .dead κ′) (sem 𝓤 H A (LentShared ys))) (H .⇛ (sep 𝓤 (sem 𝓤 H A (MutSlice ℓ κ R .own (at-list γ ys) (sliceVal (b, o) k ∷ []))) (A .lft κ q)))) e (shared-back (subst (Room R) (sym e) room))

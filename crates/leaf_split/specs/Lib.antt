@@ -1,0 +1,2 @@
+-- What a digest over a list of entries answers and leaves.
+pub mod Digests
