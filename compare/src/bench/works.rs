@@ -9,7 +9,6 @@ use crate::pages::{made, LONGEST_VALUE};
 use crate::plain::calls::{ingest, open};
 use crate::plain::digest::{asked, digest, TICKET};
 use crate::plain::page::{build, Record};
-use crate::plain::verdict::SHORT_AREA;
 use crate::plain::work::{State, WAITING};
 use crate::rng::Rng;
 use crate::side::unopened;
@@ -34,6 +33,8 @@ const LISTS: [usize; 3] = [121, 512, 4096];
 pub const STORE: usize = 4096;
 const CUTOFF: Key = [0x80; 32];
 const NEXT_CUTOFF: Key = [0xff; 32];
+/// Above all others.
+const LAST_KEY: Key = [0xff; 32];
 
 /// Whether the sides agree; else nothing is timed.
 pub fn run() -> bool {
@@ -222,8 +223,9 @@ fn bench_digest(inputs: &str, base: &Base, state: &State) -> bool {
     let [pages, tickets] = &mut area;
     let ours = bare::digest(&mut state.clone(), &base.page, pages, tickets);
     let rust = Updater::of(state, &base.page).digest_bare();
-    let short = bare::digest(&mut state.clone(), &base.page, &mut [], &mut []);
-    if (ours, short) != (Ok(rust), Err(SHORT_AREA)) {
+    let long = [7; LONGEST_VALUE + 1];
+    let checked = bare::put(&mut state.clone(), &base.page, &LAST_KEY, &long);
+    if ours != Ok(rust) || checked {
         return false;
     }
     let lent = RefCell::new(area);
@@ -245,9 +247,10 @@ fn bench_digest(inputs: &str, base: &Base, state: &State) -> bool {
                 black_box(bare::digest(state, &base.page, pages, tickets).ok());
             },
         },
-        // without an area it is refused when all is checked
+        // An ingest that is refused for its value's length has checked all that a digest checks but its area, and done nothing else. A digest
+        // that is refused for its area has split the list.
         Some(|state: &mut State| {
-            black_box(bare::digest(state, &base.page, &mut [], &mut []).ok());
+            black_box(bare::put(state, &base.page, &LAST_KEY, &long));
         }),
     );
     true
