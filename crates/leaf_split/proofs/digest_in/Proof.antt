@@ -458,7 +458,7 @@ module _ {M : Type 1} (𝓤 : URA M) (H : Heap 𝓤) (A : Atoms 𝓤) (W : Given
         move ! (4 ∷ 5 ∷ []) $ use2 W (later (some (λ (δ : GName). ‵ (ShrSlice (named 0) (ν₇ ∷ []) R .own (yr δ (ls .1 .1 .0)) (sR ∷ [])) ⊛ ‵ (LentShared R κ₁ (ν₇ ∷ []) q₁ γ₂ b₂ o₂ (ls .1 .1 .0))))) (shares-again-at R κ₁ (ν₇ ∷ []) q₁ γ₂ b₂ o₂ 𝓤 H A W (named 1) (named 0) (ls .1 .1 .0) (length rows) (m₃ ∙ m₁)) $ await ! tt $ pick ! (λ δ₇. split ! $
         move ! (4 ∷ 5 ∷ []) $ use2 W (later (some (λ (δ : GName). ‵ (ShrSlice (named 0) (ν₈ ∷ []) B .own (yk δ (ls .1 .1 .1 .0)) (sK ∷ [])) ⊛ ‵ (LentShared B κ₂ (ν₈ ∷ []) q₂ γ₃ b₃ o₃ (ls .1 .1 .1 .0))))) (shares-again-at B κ₂ (ν₈ ∷ []) q₂ γ₃ b₃ o₃ 𝓤 H A W (named 2) (named 0) (ls .1 .1 .1 .0) (length keys) (m₄ ∙ m₂)) $ await ! tt $ pick ! (λ δ₈. split ! $
         move ! (12 ∷ 5 ∷ 4 ∷ 11 ∷ 2 ∷ 0 ∷ []) $ group ! 6 $ use1 W (raw (Gather 𝓤 H A at-mem run .pre (to₆ ν₇ ν₈ δ₇ (ls .1 .1 .0) δ₈ (ls .1 .1 .1 .0) (r₅ .count)))) (asks₆ ν₇ ν₈ δ₇ (ls .1 .1 .0) δ₈ (ls .1 .1 .1 .0) (r₅ .count) (parts .1 .1 .0 .1) (fits-back r₃ (ps .1 .0) (ps .1 .1 .0) r₅ (ls .1 .1 .0) (ls .1 .1 .1 .0) (ls .1 .1 .1 .1 .1 .0) (ls .1 .1 .1 .1 .1 .1 .1 .0) (ls .1 .1 .1 .1 .1 .1 .1 .1 .0) r₁ r₂ f₁ f₂ f₃ f₄ f₅ (m₃ ∙ m₁) (m₄ ∙ m₂))) $
-        calls-at ! fm (Gather 𝓤 H A at-mem run) known₆ (to₆ ν₇ ν₈ δ₇ (ls .1 .1 .0) δ₈ (ls .1 .1 .1 .0) (r₅ .count)) (and-then ! (load ! (from ! (stop !)) (look ! 16 refl)) (and-then ! (load ! (from ! (stop !)) (look ! 12 refl)) (and-then ! (load ! (from ! (stop !)) (look ! 8 refl)) (and-then ! (load ! (from ! (fld ! refl (stop !))) (look-in ! 62 (sub ! 2 refl (whole !)))) (no-more !))))) (λ w₆.
+        calls-at ! fm (Gather 𝓤 H A at-mem run) known₆ (to₆ ν₇ ν₈ δ₇ (ls .1 .1 .0) δ₈ (ls .1 .1 .1 .0) (r₅ .count)) (and-then ! (load ! (from ! (stop !)) (look ! 16 refl)) (and-then ! (load ! (from ! (stop !)) (look ! 12 refl)) (and-then ! (load ! (from ! (stop !)) (look ! 8 refl)) (and-then ! (load ! (from ! (fld ! {d = 264} refl (stop !))) (look-in ! 62 (sub ! 2 {d = 264} refl (whole !)))) (no-more !))))) (λ w₆.
         use1 W (later (some (λ (u₆ : Unit {0}). ((‵ (flft κ₀ q₀) ⊛ ‵ (flft (ν₇ ∷ []) fullShare) ⊛ ‵ (flft (ν₈ ∷ []) fullShare) ⊛ ‵ ftrue) ⊛ ‵ (Nothing .own u₆ (w₆ ∷ []))) ⊛ raw (ensured 𝓤 H A gather.ended (gather.clauses 𝓤 H A at-mem run) (κ₀, (ν₇ ∷ [], (ν₈ ∷ [], tt))) (args₆ δ₇ (ls .1 .1 .0) δ₈ (ls .1 .1 .1 .0) (r₅ .count)) tt u₆)))) (id⊢ 𝓤 _) $ await ! tt $ pick ! (λ u₆.
         split ! $ move ! (1 ∷ []) $ use1 W (some (λ (zs : Lasts₆). ‵ (lasts gather.ended (κ₀, (ν₇ ∷ [], (ν₈ ∷ [], tt))) (args₆ δ₇ (ls .1 .1 .0) δ₈ (ls .1 .1 .1 .0) (r₅ .count)) zs) ⊛ raw (fact 𝓤 (zs .0 ≡ gathers (r₅ .count) (ls .1 .1 .0) (ls .1 .1 .1 .0))))) (id⊢ 𝓤 _) $ pick ! (λ zs.
         split ! $ move ! (1 ∷ []) $ heard ! (zs .0 ≡ gathers (r₅ .count) (ls .1 .1 .0) (ls .1 .1 .1 .0)) (λ f₆. fsplit ! $ fsplit ! $ move ! (1 ∷ []) $ feqL ! (λ n₁. move ! (1 ∷ []) $ drop ! $

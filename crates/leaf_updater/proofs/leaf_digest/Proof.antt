@@ -185,8 +185,8 @@ module _ {M : Type 1} (𝓤 : URA M) (H : Heap 𝓤) (A : Atoms 𝓤) (W : Given
         let parts = LL.owed Q.the-type Q′.the-laws r₁ _ is₁ in
         land ! (from ! (stop !)) (init ! 30 refl (LL.lawful Q.the-type Q′.the-laws 𝓤 H A W .typed r₁ _ is₁ .0)) $ rewrite ! 30 (λ (u : Val). ‵ (fat fullShare (tyAt piece.locals 7) l₇ 0 u)) (ap only (LL.tells Q.the-type Q′.the-laws r₁ _ is₁)) refl $ drop ! $
         -- *work = step.work; step.reply
-        assigns ! (of-opd ! (load ! (from ! (fld ! refl (stop !))) (look-in ! 29 (sub ! 1 refl (whole !))))) (from ! (hop ! (look ! 41 refl) (stop !))) (store-raw ! 6 refl (LL.lawful K.the-type K′.the-laws 𝓤 H A W .typed (r₁ .work) _ (parts .1 .0) .0)) $
-        assigns ! (of-opd ! (load ! (from ! (fld ! refl (stop !))) (look-in ! 29 (sub ! 0 refl (whole !))))) (from ! (stop !)) (init ! 43 refl (LL.lawful L.the-type L′.the-laws 𝓤 H A W .typed (r₁ .reply) _ (parts .0) .0)) $
+        assigns ! (of-opd ! (load ! (from ! (fld ! {d = 48} refl (stop !))) (look-in ! 29 (sub ! 1 {d = 48} refl (whole !))))) (from ! (hop ! (look ! 41 refl) (stop !))) (store-raw ! 6 refl (LL.lawful K.the-type K′.the-laws 𝓤 H A W .typed (r₁ .work) _ (parts .1 .0) .0)) $
+        assigns ! (of-opd ! (load ! (from ! (fld ! {d = 0} refl (stop !))) (look-in ! 29 (sub ! 0 {d = 0} refl (whole !))))) (from ! (stop !)) (init ! 43 refl (LL.lawful L.the-type L′.the-laws 𝓤 H A W .typed (r₁ .reply) _ (parts .0) .0)) $
         move ! (7 ∷ []) $ drop ! $ owned ! K.the-row (Is K.the-row) (LL.makes K.the-type K′.the-plain 𝓤 H A) (r₁ .work) (machK (r₁ .work) ∷ []) (parts .1 .0) $ move ! (7 ∷ 0 ∷ 8 ∷ 9 ∷ 10 ∷ []) $ closes ! tt K.the-row (r₁ .work) (machK (r₁ .work) ∷ []) b₀ o₀ $
         returns ! (look ! 41 refl) $ forget ! 41 refl $ forget ! 39 refl $ forget ! 37 refl $ forget ! 35 refl $ forget ! 33 refl $ forget ! 31 refl $ forget ! 29 refl $ forget ! 27 refl $ forget ! 25 refl $ forget ! 23 refl $ forget ! 21 refl $ forget ! 19 refl $ forget ! 17 refl $ forget ! 15 refl $ forget ! 13 refl $ forget ! 11 refl $ forget ! 9 refl $
         move ! (41 ∷ 42 ∷ []) $ free1 ! $ move ! (39 ∷ 40 ∷ []) $ free1 ! $ move ! (37 ∷ 38 ∷ []) $ free1 ! $ move ! (35 ∷ 36 ∷ []) $ free1 ! $ move ! (33 ∷ 34 ∷ []) $ free1 ! $ move ! (31 ∷ 32 ∷ []) $ free1 ! $ move ! (29 ∷ 30 ∷ []) $ free1 ! $ move ! (27 ∷ 28 ∷ []) $ free1 ! $ move ! (25 ∷ 26 ∷ []) $ free1 ! $ move ! (23 ∷ 24 ∷ []) $ free1 ! $ move ! (21 ∷ 22 ∷ []) $ free1 ! $ move ! (19 ∷ 20 ∷ []) $ free1 ! $ move ! (17 ∷ 18 ∷ []) $ free1 ! $ move ! (15 ∷ 16 ∷ []) $ free1 ! $ move ! (13 ∷ 14 ∷ []) $ free1 ! $ move ! (11 ∷ 12 ∷ []) $ free1 ! $ move ! (9 ∷ 10 ∷ []) $ free1 ! $ free0 ! $

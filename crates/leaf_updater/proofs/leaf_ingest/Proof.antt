@@ -340,7 +340,7 @@ module _ {M : Type 1} (𝓤 : URA M) (H : Heap 𝓤) (A : Atoms 𝓤) (W : Given
         use2 W (later (some (λ (δ : GName). ‵ (MutSlice (named 0) (ν₂ ∷ []) E .own (x δ es) (sE ∷ [])) ⊛ ‵ (LentAgain E κ₁ (ν₂ ∷ []) q₁ γ₁ b₁ o₁ δ es)))) (lends-again E κ₁ (ν₂ ∷ []) q₁ γ₁ b₁ o₁ 𝓤 H A W (named 1) (named 0) es) $ await ! tt $ pick ! (λ δ₂. split ! $
         nothing ! $ owned ! T.the-row (Is T.the-row) (LL.makes T.the-type T′.the-plain 𝓤 H A) (r₃ .chunk) _ (parts .1 .1 .1 .0) $ fjoin ! $ owned ! usize (Is usize) (uint-makes 𝓤 H A W w64) (r₃ .at) _ (refl, parts .1 .1 .0 .1) $ fjoin ! $ move ! (1 ∷ 0 ∷ []) $ fjoin ! $ nothing ! $ move ! (3 ∷ 0 ∷ []) $ join ! $
         use2 W (raw (Insert 𝓤 H A at-mem run .pre (to₄ (ν₂ ∷ []) fullShare δ₂ es (r₃ .at) (r₃ .chunk)))) (asked₄ (ν₂ ∷ []) fullShare δ₂ es (r₃ .at) (r₃ .chunk)) $
-        calls-at ! fm (Insert 𝓤 H A at-mem run) known₄ (to₄ (ν₂ ∷ []) fullShare δ₂ es (r₃ .at) (r₃ .chunk)) (and-then ! (load ! (from ! (stop !)) (look ! 16 refl)) (and-then ! (load ! (from ! (fld ! refl (stop !))) (look-in ! 34 (sub ! 2 refl (whole !)))) (and-then ! (load ! (from ! (fld ! refl (stop !))) (look-in ! 34 (sub ! 3 refl (whole !)))) (no-more !)))) (λ w₄.
+        calls-at ! fm (Insert 𝓤 H A at-mem run) known₄ (to₄ (ν₂ ∷ []) fullShare δ₂ es (r₃ .at) (r₃ .chunk)) (and-then ! (load ! (from ! (stop !)) (look ! 16 refl)) (and-then ! (load ! (from ! (fld ! {d = 240} refl (stop !))) (look-in ! 34 (sub ! 2 {d = 240} refl (whole !)))) (and-then ! (load ! (from ! (fld ! {d = 248} refl (stop !))) (look-in ! 34 (sub ! 3 {d = 248} refl (whole !)))) (no-more !)))) (λ w₄.
         use1 W (later (some (λ (u : Unit {0}). ((‵ (flft (ν₂ ∷ []) fullShare) ⊛ ‵ ftrue) ⊛ ‵ (Nothing .own u (w₄ ∷ []))) ⊛ raw (ensured 𝓤 H A insert.ended (insert.clauses 𝓤 H A at-mem run) (ν₂ ∷ [], tt) (args₄ δ₂ es (r₃ .at) (r₃ .chunk)) tt u)))) (id⊢ 𝓤 _) $ await ! tt $ pick ! (λ u₄.
         split ! $ move ! (1 ∷ []) $ use1 W (some (λ (ws : List Entry × (Unit {0} × (Unit {0} × Unit {0}))). ‵ (lasts insert.ended (ν₂ ∷ [], tt) (args₄ δ₂ es (r₃ .at) (r₃ .chunk)) ws) ⊛ raw (fact 𝓤 (ws .0 ≡ set es (r₃ .at) (r₃ .chunk))))) (id⊢ 𝓤 _) $ pick ! (λ ys.
         split ! $ move ! (1 ∷ []) $ heard ! (ys .0 ≡ set es (r₃ .at) (r₃ .chunk)) (λ f₄. fsplit ! $ move ! (1 ∷ []) $ drop ! $ fsplit ! $ move ! (1 ∷ []) $ feqL ! (λ n₄.
@@ -352,15 +352,15 @@ module _ {M : Type 1} (𝓤 : URA M) (H : Heap 𝓤) (A : Atoms 𝓤) (W : Given
         assigns ! (agg ! (and-then ! (load ! (from ! (stop !)) (look ! 14 refl)) (and-then ! (load ! (from ! (fld ! refl (stop !))) (look-in ! 52 (sub ! 1 refl (whole !)))) (no-more !)))) (from ! (stop !)) (init ! 12 refl (tt, (tt, (record { fits = rl .0 }, tt)))) $
         nothing ! $ owned ! T.the-row (Is T.the-row) (LL.makes T.the-type T′.the-plain 𝓤 H A) (r₃ .insert) _ (parts .1 .1 .1 .1 .1 .0) $ fjoin ! $ owned ! usize (Is usize) (uint-makes 𝓤 H A W w64) (r₃ .next) _ (refl, parts .1 .1 .1 .1 .0 .1) $ fjoin ! $ move ! (1 ∷ 0 ∷ []) $ fjoin ! $ nothing ! $ move ! (2 ∷ 0 ∷ []) $ join ! $
         use2 W (raw (Insert 𝓤 H A at-mem run .pre (to₄ κ₁ q₁ γ₁ (ys .0) (r₃ .next) (r₃ .insert)))) (asked₄ κ₁ q₁ γ₁ (ys .0) (r₃ .next) (r₃ .insert)) $
-        calls-at ! fm (Insert 𝓤 H A at-mem run) known₄ (to₄ κ₁ q₁ γ₁ (ys .0) (r₃ .next) (r₃ .insert)) (and-then ! (load ! (from ! (stop !)) (look ! 11 refl)) (and-then ! (load ! (from ! (fld ! refl (stop !))) (look-in ! 33 (sub ! 4 refl (whole !)))) (and-then ! (load ! (from ! (fld ! refl (stop !))) (look-in ! 33 (sub ! 5 refl (whole !)))) (no-more !)))) (λ w₅.
+        calls-at ! fm (Insert 𝓤 H A at-mem run) known₄ (to₄ κ₁ q₁ γ₁ (ys .0) (r₃ .next) (r₃ .insert)) (and-then ! (load ! (from ! (stop !)) (look ! 11 refl)) (and-then ! (load ! (from ! (fld ! {d = 312} refl (stop !))) (look-in ! 33 (sub ! 4 {d = 312} refl (whole !)))) (and-then ! (load ! (from ! (fld ! {d = 320} refl (stop !))) (look-in ! 33 (sub ! 5 {d = 320} refl (whole !)))) (no-more !)))) (λ w₅.
         use1 W (later (some (λ (u : Unit {0}). ((‵ (flft κ₁ q₁) ⊛ ‵ ftrue) ⊛ ‵ (Nothing .own u (w₅ ∷ []))) ⊛ raw (ensured 𝓤 H A insert.ended (insert.clauses 𝓤 H A at-mem run) (κ₁, tt) (args₄ γ₁ (ys .0) (r₃ .next) (r₃ .insert)) tt u)))) (id⊢ 𝓤 _) $ await ! tt $ pick ! (λ u₅.
         split ! $ move ! (1 ∷ []) $ use1 W (some (λ (ws : List Entry × (Unit {0} × (Unit {0} × Unit {0}))). ‵ (lasts insert.ended (κ₁, tt) (args₄ γ₁ (ys .0) (r₃ .next) (r₃ .insert)) ws) ⊛ raw (fact 𝓤 (ws .0 ≡ set (ys .0) (r₃ .next) (r₃ .insert))))) (id⊢ 𝓤 _) $ pick ! (λ zs.
         split ! $ move ! (1 ∷ []) $ heard ! (zs .0 ≡ set (ys .0) (r₃ .next) (r₃ .insert)) (λ f₅. fsplit ! $ move ! (1 ∷ []) $ drop ! $ fsplit ! $ move ! (1 ∷ []) $ feqL ! (λ n₅.
         move ! (1 ∷ []) $ split ! $ split ! $ move ! (1 ∷ []) $ drop ! $ move ! (1 ∷ []) $ feqL ! (λ is₅.
         land ! (from ! (stop !)) (store ! 20 refl (subst (λ (u : Val). Holds (hasTy tyUnit u) × WT u) (sym (ap only is₅)) (tt, tt))) $
         -- *work = step.work; step.reply
-        assigns ! (of-opd ! (load ! (from ! (fld ! refl (stop !))) (look-in ! 34 (sub ! 1 refl (whole !))))) (from ! (hop ! (look ! 54 refl) (stop !))) (store-raw ! 7 refl (LL.lawful K.the-type K′.the-laws 𝓤 H A W .typed (r₃ .work) _ (parts .1 .0) .0)) $
-        assigns ! (of-opd ! (load ! (from ! (fld ! refl (stop !))) (look-in ! 34 (sub ! 0 refl (whole !))))) (from ! (stop !)) (init ! 56 refl (LL.lawful L.the-type L′.the-laws 𝓤 H A W .typed (r₃ .reply) _ (parts .0) .0)) $
+        assigns ! (of-opd ! (load ! (from ! (fld ! {d = 24} refl (stop !))) (look-in ! 34 (sub ! 1 {d = 24} refl (whole !))))) (from ! (hop ! (look ! 54 refl) (stop !))) (store-raw ! 7 refl (LL.lawful K.the-type K′.the-laws 𝓤 H A W .typed (r₃ .work) _ (parts .1 .0) .0)) $
+        assigns ! (of-opd ! (load ! (from ! (fld ! {d = 0} refl (stop !))) (look-in ! 34 (sub ! 0 {d = 0} refl (whole !))))) (from ! (stop !)) (init ! 56 refl (LL.lawful L.the-type L′.the-laws 𝓤 H A W .typed (r₃ .reply) _ (parts .0) .0)) $
         move ! (8 ∷ []) $ drop ! $ owned ! K.the-row (Is K.the-row) (LL.makes K.the-type K′.the-plain 𝓤 H A) (r₃ .work) (machK (r₃ .work) ∷ []) (parts .1 .0) $ move ! (8 ∷ 0 ∷ 9 ∷ 10 ∷ 11 ∷ []) $ closes ! tt K.the-row (r₃ .work) (machK (r₃ .work) ∷ []) b₀ o₀ $
         returns ! (look ! 54 refl) $ forget ! 10 refl $ forget ! 12 refl $ forget ! 14 refl $ forget ! 16 refl $ forget ! 18 refl $ forget ! 20 refl $ forget ! 22 refl $ forget ! 24 refl $ forget ! 26 refl $ forget ! 28 refl $ forget ! 30 refl $ forget ! 32 refl $ forget ! 34 refl $ forget ! 36 refl $ forget ! 38 refl $ forget ! 40 refl $ forget ! 42 refl $ forget ! 44 refl $ forget ! 46 refl $ forget ! 48 refl $ forget ! 50 refl $ forget ! 52 refl $ forget ! 54 refl $
         move ! (54 ∷ 55 ∷ []) $ free1 ! $ move ! (52 ∷ 53 ∷ []) $ free1 ! $ move ! (50 ∷ 51 ∷ []) $ free1 ! $ move ! (48 ∷ 49 ∷ []) $ free1 ! $ move ! (46 ∷ 47 ∷ []) $ free1 ! $ move ! (44 ∷ 45 ∷ []) $ free1 ! $ move ! (42 ∷ 43 ∷ []) $ free1 ! $ move ! (40 ∷ 41 ∷ []) $ free1 ! $ move ! (38 ∷ 39 ∷ []) $ free1 ! $ move ! (36 ∷ 37 ∷ []) $ free1 ! $ move ! (34 ∷ 35 ∷ []) $ free1 ! $ move ! (32 ∷ 33 ∷ []) $ free1 ! $ move ! (30 ∷ 31 ∷ []) $ free1 ! $ move ! (28 ∷ 29 ∷ []) $ free1 ! $ move ! (26 ∷ 27 ∷ []) $ free1 ! $ move ! (24 ∷ 25 ∷ []) $ free1 ! $ move ! (22 ∷ 23 ∷ []) $ free1 ! $ move ! (20 ∷ 21 ∷ []) $ free1 ! $ move ! (18 ∷ 19 ∷ []) $ free1 ! $ move ! (16 ∷ 17 ∷ []) $ free1 ! $ move ! (14 ∷ 15 ∷ []) $ free1 ! $ move ! (12 ∷ 13 ∷ []) $ free1 ! $ move ! (10 ∷ 11 ∷ []) $ free1 ! $ free0 ! $

@@ -260,8 +260,8 @@ module _ {M : Type 1} (𝓤 : URA M) (H : Heap 𝓤) (A : Atoms 𝓤) (W : Given
         rewrite ! 20 (λ (u : Val). ‵ (fat fullShare (tyAt piece.locals 10) l₁₀ 0 u)) (ap only (LL.tells S.the-type S′.the-laws r₃ _ is₃)) refl $
         let parts = LL.owed S.the-type S′.the-laws r₃ _ is₃ in drop ! $ split ! $ move ! (1 ∷ []) $ split ! $ move ! (1 ∷ []) $ split ! $ move ! (1 ∷ []) $ split ! $ move ! (1 ∷ []) $ drop ! $
         -- what it returned is stored over the record, and the borrow is closed
-        assigns ! (of-opd ! (load ! (from ! (fld ! refl (stop !))) (look-in ! 22 (sub ! 1 refl (whole !))))) (from ! (hop ! (look ! 40 refl) (stop !))) (store-raw ! 10 refl (LL.lawful T.the-type T′.the-laws 𝓤 H A W .typed (r₃ .work) _ (parts .1 .0) .0)) $
-        assigns ! (of-opd ! (load ! (from ! (fld ! refl (stop !))) (look-in ! 22 (sub ! 0 refl (whole !))))) (from ! (stop !)) (init ! 42 refl (tt, record { fits = parts .0 .1 })) $
+        assigns ! (of-opd ! (load ! (from ! (fld ! {d = 8} refl (stop !))) (look-in ! 22 (sub ! 1 {d = 8} refl (whole !))))) (from ! (hop ! (look ! 40 refl) (stop !))) (store-raw ! 10 refl (LL.lawful T.the-type T′.the-laws 𝓤 H A W .typed (r₃ .work) _ (parts .1 .0) .0)) $
+        assigns ! (of-opd ! (load ! (from ! (fld ! {d = 0} refl (stop !))) (look-in ! 22 (sub ! 0 {d = 0} refl (whole !))))) (from ! (stop !)) (init ! 42 refl (tt, record { fits = parts .0 .1 })) $
         move ! (11 ∷ []) $ drop ! $ owned ! T.the-row (Is T.the-row) (LL.makes T.the-type T′.the-plain 𝓤 H A) (r₃ .work) (machW (r₃ .work) ∷ []) (parts .1 .0) $ move ! (11 ∷ 0 ∷ 12 ∷ 13 ∷ 14 ∷ []) $ closes ! tt T.the-row (r₃ .work) (machW (r₃ .work) ∷ []) b o $
         returns ! (look ! 40 refl) $ forget ! 40 refl $ forget ! 38 refl $ forget ! 36 refl $ forget ! 34 refl $ forget ! 32 refl $ forget ! 30 refl $ forget ! 28 refl $ forget ! 26 refl $ forget ! 24 refl $ forget ! 22 refl $ forget ! 20 refl $ forget ! 18 refl $ forget ! 16 refl $
         move ! (40 ∷ 41 ∷ []) $ free1 ! $ move ! (38 ∷ 39 ∷ []) $ free1 ! $ move ! (36 ∷ 37 ∷ []) $ free1 ! $ move ! (34 ∷ 35 ∷ []) $ free1 ! $ move ! (32 ∷ 33 ∷ []) $ free1 ! $ move ! (30 ∷ 31 ∷ []) $ free1 ! $ move ! (28 ∷ 29 ∷ []) $ free1 ! $ move ! (26 ∷ 27 ∷ []) $ free1 ! $ move ! (24 ∷ 25 ∷ []) $ free1 ! $ move ! (22 ∷ 23 ∷ []) $ free1 ! $ move ! (20 ∷ 21 ∷ []) $ free1 ! $ move ! (18 ∷ 19 ∷ []) $ free1 ! $ move ! (16 ∷ 17 ∷ []) $ free1 ! $ free0 ! $

@@ -242,8 +242,8 @@ module _ {M : Type 1} (𝓤 : URA M) (H : Heap 𝓤) (A : Atoms 𝓤) (W : Given
         rewrite ! 16 (λ (u : Val). ‵ (fat fullShare (tyAt piece.locals 6) l₆ 0 u)) (ap only (LL.tells S.the-type S′.the-laws r₃ _ is₃)) refl $
         let parts = LL.owed S.the-type S′.the-laws r₃ _ is₃ in drop ! $ split ! $ move ! (1 ∷ []) $ drop ! $
         -- what it returned is stored over the record, and the borrow is closed
-        assigns ! (of-opd ! (load ! (from ! (fld ! refl (stop !))) (look-in ! 15 (sub ! 1 refl (whole !))))) (from ! (hop ! (look ! 25 refl) (stop !))) (store-raw ! 4 refl (LL.lawful T.the-type T′.the-laws 𝓤 H A W .typed (r₃ .work) _ (parts .1 .0) .0)) $
-        assigns ! (of-opd ! (load ! (from ! (fld ! refl (stop !))) (look-in ! 15 (sub ! 0 refl (whole !))))) (from ! (stop !)) (init ! 27 refl (tt, record { fits = parts .0 .1 })) $
+        assigns ! (of-opd ! (load ! (from ! (fld ! {d = 8} refl (stop !))) (look-in ! 15 (sub ! 1 {d = 8} refl (whole !))))) (from ! (hop ! (look ! 25 refl) (stop !))) (store-raw ! 4 refl (LL.lawful T.the-type T′.the-laws 𝓤 H A W .typed (r₃ .work) _ (parts .1 .0) .0)) $
+        assigns ! (of-opd ! (load ! (from ! (fld ! {d = 0} refl (stop !))) (look-in ! 15 (sub ! 0 {d = 0} refl (whole !))))) (from ! (stop !)) (init ! 27 refl (tt, record { fits = parts .0 .1 })) $
         move ! (5 ∷ []) $ drop ! $ owned ! T.the-row (Is T.the-row) (LL.makes T.the-type T′.the-plain 𝓤 H A) (r₃ .work) (machW (r₃ .work) ∷ []) (parts .1 .0) $ move ! (5 ∷ 0 ∷ 6 ∷ 7 ∷ 8 ∷ []) $ closes ! tt T.the-row (r₃ .work) (machW (r₃ .work) ∷ []) b o $
         returns ! (look ! 25 refl) $ forget ! 25 refl $ forget ! 23 refl $ forget ! 21 refl $ forget ! 19 refl $ forget ! 17 refl $ forget ! 15 refl $ forget ! 13 refl $ forget ! 11 refl $ forget ! 9 refl $
         move ! (25 ∷ 26 ∷ []) $ free1 ! $ move ! (23 ∷ 24 ∷ []) $ free1 ! $ move ! (21 ∷ 22 ∷ []) $ free1 ! $ move ! (19 ∷ 20 ∷ []) $ free1 ! $ move ! (17 ∷ 18 ∷ []) $ free1 ! $ move ! (15 ∷ 16 ∷ []) $ free1 ! $ move ! (13 ∷ 14 ∷ []) $ free1 ! $ move ! (11 ∷ 12 ∷ []) $ free1 ! $ move ! (9 ∷ 10 ∷ []) $ free1 ! $ free0 ! $
