@@ -1,15 +1,17 @@
 -- Zeros eight at a time. Assumes nothing.
 use mathlib.Core.Path.{_≡_, refl, sym, ap, _∙_}
-use mathlib.Core.Bool.{Bool, true, false, not, false≢true, true≢false}
+use mathlib.Core.Bool.{Bool, true, false, not, _&&_, false≢true, true≢false}
 use mathlib.Core.List.{List, [], _∷_, _++_}
 use Prim.Native.Nat.{ℕ, suc, _+_, _*_, _≤_, _<_}
 use native.Mathlib.Omega.{arith}
 use lib.Dec.{eqb}
-use lib.ListN.{length, getD, take, drop, take-append-drop}
+use lib.ListN.{length, getD, take, drop, take-append-drop, drop-of-length-le}
 use lib.Seq.{drop-cons, drop-drop}
 use borrow.Author.Tests.{eq-eqb, eqb-true, not-true, not-false}
 use Rattle.leaf_node.specs.Fits.{All, nil, cons}
-use Rattle.leaf_work.specs.Tests.{every, isZero}
+use Rattle.bit_ops.specs.Steps.{zeros}
+use Rattle.leaf_model.specs.Work.{zeroKey}
+use Rattle.leaf_work.specs.Tests.{every, isZero, sameBytes}
 use Rattle.leaf_work.proofs.Tests.{every-all}
 use Rattle.leaf_work.proofs.Tests.{one-test}
 
@@ -100,3 +102,44 @@ module _ (xs : List ℕ) (from i : ℕ) (e : every isZero (drop from xs) ≡ eve
 
 pub the-last-decide : (xs : List ℕ) (from i : ℕ) (r : Bool) → every isZero (drop from xs) ≡ every isZero (drop i xs) → r ≡ every isZero (drop i xs) → r ≡ every isZero (drop from xs)
 the-last-decide xs from i r e q = q ∙ sym e
+
+-- ---- a key
+
+same-as-zeros : (xs : List ℕ) → sameBytes xs (zeros (length xs)) ≡ every isZero xs
+same-as-zeros [] = refl
+same-as-zeros (x ∷ xs) = go (eqb x 0) refl (same-as-zeros xs)
+  where
+    go : (b : Bool) → eqb x 0 ≡ b → sameBytes xs (zeros (length xs)) ≡ every isZero xs → sameBytes (x ∷ xs) (0 ∷ zeros (length xs)) ≡ every isZero (x ∷ xs)
+    go true e ih = rw (e, sameBytes, every) ih
+    go false e ih = rw (e, sameBytes, every)
+
+every-both : (xs ys : List ℕ) → every isZero (xs ++ ys) ≡ (every isZero xs && every isZero ys)
+every-both xs ys = go (every isZero xs) refl
+  where
+    go : (b : Bool) → every isZero xs ≡ b → every isZero (xs ++ ys) ≡ (every isZero xs && every isZero ys)
+    go true e = every-append xs ys e ∙ rw e
+    go false e = every-left xs ys e ∙ rw e
+
+module _ (xs : List ℕ) (l : length xs ≡ 32) (a b c d : Bool) (p : a ≡ every isZero (take 8 (drop 0 xs))) (q : b ≡ every isZero (take 8 (drop 8 xs)))
+    (r : c ≡ every isZero (take 8 (drop 16 xs))) (s : d ≡ every isZero (take 8 (drop 24 xs))) where
+  eight-and-the-rest : (i j : ℕ) → j ≡ i + 8 → every isZero (drop i xs) ≡ (every isZero (take 8 (drop i xs)) && every isZero (drop j xs))
+  eight-and-the-rest i j e =
+      ap (λ (ys : List ℕ). every isZero ys) (sym (take-append-drop 8 (drop i xs)) ∙ ap (λ (ys : List ℕ). take 8 (drop i xs) ++ ys) (drop-drop 8 i xs ∙ ap (λ (k : ℕ). drop k xs) (sym e)))
+      ∙ every-both (take 8 (drop i xs)) (drop j xs)
+
+  none-behind : every isZero (drop 32 xs) ≡ true
+  none-behind = ap (λ (ys : List ℕ). every isZero ys) (drop-of-length-le xs {i = 32} (omega (arith, l)))
+
+  in-fours : (a b c d : Bool) → ((a && b) && (c && d)) ≡ (a && (b && (c && (d && true))))
+  in-fours true true true true = refl
+  in-fours true true true false = refl
+  in-fours true true false d = refl
+  in-fours true false c d = refl
+  in-fours false b c d = refl
+
+  all-four : every isZero xs ≡ ((a && b) && (c && d))
+  all-four =
+      eight-and-the-rest 0 8 refl ∙ rw (eight-and-the-rest 8 16 refl, eight-and-the-rest 16 24 refl, eight-and-the-rest 24 32 refl, none-behind, ← p, ← q, ← r, ← s) (sym (in-fours a b c d))
+
+  pub four-words-are-the-key : ((a && b) && (c && d)) ≡ sameBytes xs zeroKey
+  four-words-are-the-key = sym all-four ∙ sym (same-as-zeros xs) ∙ ap (λ (n : ℕ). sameBytes xs (zeros n)) l

@@ -101,12 +101,21 @@ pub fn same_key(a: &[u8; 32], b: &[u8; 32]) -> bool
     bit_ops::equal(a, b)
 }
 
+// Whether 32 bytes are zeros, by four words and without a branch: it is asked of every unused entry.
+fn zero_words(key: &[u8]) -> bool
+    requires { ⌜ length (now key) ≡ 32 ⌝ }
+    ensures { λ r. ⌜ r ≡ sameBytes (now (key .entry)) zeroKey ⌝ }
+{
+    let low = eight_zeros(key, 0) & eight_zeros(key, 8);
+    let high = eight_zeros(key, 16) & eight_zeros(key, 24);
+    low & high
+}
+
 // Whether a key is zeros, as an absent one must be.
 pub fn is_zero_key(key: &[u8; 32]) -> bool
     ensures { λ r. ⌜ r ≡ sameBytes (now (key .entry)) zeroKey ⌝ }
 {
-    let zero = [0u8; 32];
-    same_key(key, &zero)
+    zero_words(key)
 }
 
 // Whether an entry is unused: all of its fields are zero.

@@ -18,19 +18,28 @@ use Rattle.leaf_pass.specs.Pass.{Small, insertRight, chunkRight, wrong, withIns
 use Rattle.leaf_passed.specs.declared.Passing.{Passing}
 use Rattle.leaf_passed.specs.declared.Unused.{Unused}
 use Rattle.leaf_passed.specs.Passed.{seen, withPass, passedOver, PassingOn}
-use Rattle.leaf_passed.specs.Behind.{firstCount, unusedFrom, unusedOne, unusedOver, marked}
+use Rattle.leaf_passed.specs.Behind.{lesserOf, unusedFrom, unusedOne, unusedOver, marked}
 use Rattle.leaf_passed.proofs.Verdicts.{stopped, went}
 
 -- ---- the functions
 
-module _ (used entries : ℕ) where
-  pub some-entries-are-not-used : used < entries → (used ≡ firstCount used entries) × (used ≤ entries)
-  unfolding firstCount
-  some-entries-are-not-used h = (rw (lt-ltb used entries h), omega arith)
+module _ (a b : ℕ) where
+  pub the-first-is-lesser : a < b → (a ≡ lesserOf a b) × (a ≤ b)
+  unfolding lesserOf
+  the-first-is-lesser h = (rw (lt-ltb a b h), omega arith)
 
-  pub no-entry-is-not-used : entries ≤ used → (entries ≡ firstCount used entries) × (entries ≤ entries)
-  unfolding firstCount
-  no-entry-is-not-used h = (rw (le-ltb used entries h), omega arith)
+  pub the-second-is-lesser : b ≤ a → (b ≡ lesserOf a b) × (b ≤ b)
+  unfolding lesserOf
+  the-second-is-lesser h = (rw (le-ltb a b h), omega arith)
+
+  -- the lesser is one of the two, and not above the other
+  pub lesser-bounds : (lesserOf a b ≤ b) × (lesserOf a b ≤ a) × (lesserOf a b < b → lesserOf a b ≡ a)
+  unfolding lesserOf
+  lesser-bounds = go (ltb a b) refl
+    where
+      go : (t : Bool) → ltb a b ≡ t → (oneOf t a b ≤ b) × (oneOf t a b ≤ a) × (oneOf t a b < b → oneOf t a b ≡ a)
+      go true e = let l = ltb-true a b e in (omega (arith, l), omega arith, λ _. refl)
+      go false e = let l = ltb-false a b e in (omega arith, l, λ h. absurd (omega (arith, h)))
 
 module _ (u : Unused) (e : Entry) where
   pub an-entry-behind-is-looked-at : u .left ≡ 0 → (t : Bool) → t ≡ isBlank e → _≡_ {A = Unused} (record { left = 0; all = u .all && t }) (unusedOne u e)
@@ -173,10 +182,5 @@ module _ (page : List ℕ) (at : Passing) (list : List Entry) (m : ℕ) where
       let look : u .all ≡ every isBlank (drop m list) = ap (λ (y : Unused). y .all) g ∙ the-look-is-at-those-behind (unusedFrom m) list in
       h ∙ rw (look, f) (sym (the-pass-in-two page at list m used))
 
-  pub those-are-the-used-ones : m ≡ firstCount (at .bounds .used) (length list) → at .go ≡ true → m < length list → at .bounds .used ≤ m
-  unfolding firstCount
-  those-are-the-used-ones e g l = go (ltb (at .bounds .used) (length list)) e
-    where
-      go : (t : Bool) → m ≡ oneOf t (at .bounds .used) (length list) → at .bounds .used ≤ m
-      go true f = omega (arith, f)
-      go false f = absurd (omega (arith, f, l))
+  pub those-are-the-used-ones : m ≡ lesserOf (at .bounds .used) (length list) → at .go ≡ true → m < length list → at .bounds .used ≤ m
+  those-are-the-used-ones e g l = let b = lesser-bounds (at .bounds .used) (length list) in omega (arith, e, b .2 (omega (arith, e, l)))

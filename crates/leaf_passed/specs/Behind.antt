@@ -12,9 +12,9 @@ use Rattle.leaf_passed.specs.declared.Passing.{Passing}
 use Rattle.leaf_passed.specs.declared.Unused.{Unused}
 use Rattle.leaf_passed.specs.Passed.{withPass}
 
--- the used entries of a list
-unfoldable pub firstCount : ℕ → ℕ → ℕ
-firstCount used entries = oneOf (ltb used entries) used entries
+-- of the number that a work uses and that of its list: the used entries of the list
+unfoldable pub lesserOf : ℕ → ℕ → ℕ
+lesserOf a b = oneOf (ltb a b) a b
 
 abbrev pub unusedFrom : ℕ → Unused
 unusedFrom count = record { left = count; all = true }

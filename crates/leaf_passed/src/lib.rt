@@ -34,7 +34,7 @@ ghost use Rattle.leaf_pass.specs.Pass.{Seeing, Small};
 ghost use Rattle.leaf_check.specs.Settled.{boundsOf};
 ghost use Rattle.leaf_passed.specs.Passed.{goes, beginning, beginningOf, closedBeginning, seen, passedOne, PassingOn, soundAt, lentAt, closedAt};
 ghost use Rattle.leaf_passed.specs.Sought.{recordsIn, soughtOne, seekFrom};
-ghost use Rattle.leaf_passed.specs.Behind.{firstCount, unusedFrom, unusedOne, marked};
+ghost use Rattle.leaf_passed.specs.Behind.{lesserOf, unusedFrom, unusedOne, marked};
 
 // A pass over a list: the refusal that the page has earned, or 0; whether the entries are looked at; whether the page is read, and how many
 // records it has; what the entries are held against, and what was seen of them.
@@ -158,14 +158,20 @@ pub fn pass_one(at: Passing, entry: Entry, page: &[u8]) -> Passing
 
 // ---- the unused entries behind the others
 
+pub fn lesser(a: usize, b: usize) -> usize
+    ensures { λ r. ⌜ (r ≡ lesserOf a b) × (r ≤ b) ⌝ }
+{
+    if a < b {
+        return a;
+    }
+    b
+}
+
 // How many of so many entries are among the used ones.
 pub fn first_count(start: Passing, entries: usize) -> usize
-    ensures { λ r. ⌜ (r ≡ firstCount (start .bounds .used) entries) × (r ≤ entries) ⌝ }
+    ensures { λ r. ⌜ (r ≡ lesserOf (start .bounds .used) entries) × (r ≤ entries) ⌝ }
 {
-    if start.bounds.used < entries {
-        return start.bounds.used;
-    }
-    entries
+    lesser(start.bounds.used, entries)
 }
 
 // Looks behind the first `count` entries.

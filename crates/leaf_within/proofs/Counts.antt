@@ -10,7 +10,8 @@ use Rattle.leaf_model.specs.Work.{zeroKey}
 use Rattle.leaf_work.specs.declared.Work.{Work}
 use Rattle.leaf_work.specs.Tests.{oneOf}
 use Rattle.leaf_work.specs.Lent.{mostEntries}
-use Rattle.leaf_passed.specs.Behind.{firstCount}
+use Rattle.leaf_passed.specs.Behind.{lesserOf}
+use Rattle.leaf_passed.proofs.Behind.{lesser-bounds}
 use Rattle.leaf_digest.specs.declared.Gave.{Gave}
 use Rattle.leaf_digest.specs.declared.Gave.the-variants as gave
 use Rattle.leaf_digest.specs.Reply.{replyOf}
@@ -19,14 +20,6 @@ use Rattle.leaf_within.specs.declared.DigestStep.{DigestStep}
 use Rattle.leaf_within.specs.Within.{most, atMost, splitCount, stepOf}
 
 module _ (a b : ℕ) where
-  pub the-first-is-lesser : a < b → a ≡ firstCount a b
-  unfolding firstCount
-  the-first-is-lesser h = rw (lt-ltb a b h)
-
-  pub the-second-is-lesser : b ≤ a → b ≡ firstCount a b
-  unfolding firstCount
-  the-second-is-lesser h = rw (le-ltb a b h)
-
   pub the-second-is-greater : a < b → b ≡ most a b
   unfolding most
   the-second-is-greater h = rw (lt-ltb a b h)
@@ -34,15 +27,6 @@ module _ (a b : ℕ) where
   pub the-first-is-greater : b ≤ a → a ≡ most a b
   unfolding most
   the-first-is-greater h = rw (le-ltb a b h)
-
-  -- the lesser is one of the two, and not above the other
-  pub lesser-bounds : (firstCount a b ≤ b) × (firstCount a b ≤ a) × (firstCount a b < b → firstCount a b ≡ a)
-  unfolding firstCount
-  lesser-bounds = go (ltb a b) refl
-    where
-      go : (t : Bool) → ltb a b ≡ t → (oneOf t a b ≤ b) × (oneOf t a b ≤ a) × (oneOf t a b < b → oneOf t a b ≡ a)
-      go true e = let l = ltb-true a b e in (omega (arith, l), omega arith, λ _. refl)
-      go false e = let l = ltb-false a b e in (omega arith, l, λ h. absurd (omega (arith, h)))
 
   pub greater-bounds : (a ≤ most a b) × (b ≤ most a b)
   unfolding most
@@ -78,13 +62,13 @@ module _ (entries : ℕ) where
       go false e = let l = leb-false entries mostEntries e in (omega (arith, l), omega arith, λ _. refl)
 
   module _ (w : Work) (r : ℕ) where
-    pub a-short-list-is-split : entries ≤ 4096 → r ≡ firstCount (w .used) entries → (r ≡ splitCount w entries) × (r ≤ entries) × (r ≤ atMost entries)
+    pub a-short-list-is-split : entries ≤ 4096 → r ≡ lesserOf (w .used) entries → (r ≡ splitCount w entries) × (r ≤ entries) × (r ≤ atMost entries)
     a-short-list-is-split h e =
         let b = lesser-bounds (w .used) entries in
         let a = a-short-list-is-all-there h in
         (rw (← a) e, omega (arith, b .0, e), omega (arith, b .0, e, a))
 
-    pub a-long-list-is-split : 4096 < entries → r ≡ firstCount (w .used) 4096 → (r ≡ splitCount w entries) × (r ≤ entries) × (r ≤ atMost entries)
+    pub a-long-list-is-split : 4096 < entries → r ≡ lesserOf (w .used) 4096 → (r ≡ splitCount w entries) × (r ≤ entries) × (r ≤ atMost entries)
     a-long-list-is-split h e =
         let b = lesser-bounds (w .used) 4096 in
         let a = a-long-list-is-there-in-part h in

@@ -20,14 +20,14 @@ use Rattle.leaf_check.specs.Settled.{boundsOf}
 use Rattle.leaf_passed.specs.declared.Passing.{Passing}
 use Rattle.leaf_passed.specs.declared.Unused.{Unused}
 use Rattle.leaf_passed.specs.Passed.{PassingOn, beginningOf, passedOver, lentAt}
-use Rattle.leaf_passed.specs.Behind.{firstCount, marked}
+use Rattle.leaf_passed.specs.Behind.{lesserOf, marked}
 use Rattle.leaf_passed.proofs.Verdicts.{stopped, went}
-use Rattle.leaf_passed.proofs.Behind.{the-pass-over-all}
+use Rattle.leaf_passed.proofs.Behind.{lesser-bounds, the-pass-over-all}
 use Rattle.leaf_step.specs.Over.{Over}
 use Rattle.leaf_digest.specs.Steps.{Judged}
 use Rattle.leaf_step.proofs.Found.{beginning-bounds, the-number-is-the-tables}
 use Rattle.leaf_within.specs.Within.{atMost, splitCount, SplitFrom, SplitOver}
-use Rattle.leaf_within.proofs.Counts.{lesser-bounds, no-more-than-there-is}
+use Rattle.leaf_within.proofs.Counts.{no-more-than-there-is}
 use Rattle.leaf_within.proofs.Splits.{keysOf, entries-of-rows}
 
 -- ---- the pass over rows and keys

@@ -24,8 +24,9 @@ use Rattle.leaf_check.specs.Settled.{Regardable}
 use Rattle.leaf_digest.specs.Steps.{Digests}
 use Rattle.leaf_digest.proofs.Calls.{the-regarded-page-can-be-counted, an-accepted-work-is-ready, the-pending-records-are-the-same, an-accepted-work-can-be-digested-over}
 use Rattle.leaf_step.proofs.Closed.{a-page-has-4096-bytes}
+use Rattle.leaf_passed.proofs.Behind.{lesser-bounds}
 use Rattle.leaf_within.specs.Within.{most, atMost, splitCount, rowsNeeded, SplitFrom, Accepted}
-use Rattle.leaf_within.proofs.Counts.{lesser-bounds, greater-bounds, the-greater-is-within, a-short-list-is-all-there}
+use Rattle.leaf_within.proofs.Counts.{greater-bounds, the-greater-is-within, a-short-list-is-all-there}
 use Rattle.leaf_within.proofs.Splits.{keysOf, entries-in-front}
 
 keyed : (es : List Entry) → All (λ (k : List ℕ). length k ≡ 32) (keysOf es) → All EntryKeyed es

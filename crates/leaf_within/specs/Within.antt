@@ -14,7 +14,7 @@ use Rattle.leaf_work.specs.Pending.{pendingOf}
 use Rattle.leaf_work.specs.Verdict.{lentVerdict, digestVerdict}
 use Rattle.leaf_work.specs.Digest.{DigestReply, DigestRefused, Finished, Merge, Digested}
 use Rattle.leaf_passed.specs.declared.Unused.{Unused}
-use Rattle.leaf_passed.specs.Behind.{firstCount, unusedFrom, unusedOver}
+use Rattle.leaf_passed.specs.Behind.{lesserOf, unusedFrom, unusedOver}
 use Rattle.leaf_entries.specs.Lists.{laid, gathered}
 use Rattle.leaf_within.specs.declared.DigestStep.{DigestStep}
 use Rattle.leaf_within.specs.Reply.{gaveOut}
@@ -30,7 +30,7 @@ atMost entries = oneOf (leb entries mostEntries) entries mostEntries
 
 -- the used ones among them
 abbrev pub splitCount : Work → ℕ → ℕ
-splitCount w entries = firstCount (w .used) (atMost entries)
+splitCount w entries = lesserOf (w .used) (atMost entries)
 
 -- a row for each pending record
 abbrev pub rowsNeeded : Work → ℕ → ℕ

@@ -12,6 +12,7 @@ use leaf_passed::Passing;
 use leaf_passed::Unused;
 use leaf_passed::begin_pass;
 use leaf_passed::lent_at;
+use leaf_passed::lesser;
 use leaf_passed::mark;
 use leaf_passed::read_if;
 use leaf_work::Work;
@@ -27,7 +28,6 @@ ghost use Rattle.leaf_work.specs.Verdict.{lentVerdict, digestVerdict};
 ghost use Rattle.leaf_work.specs.Digest.{DigestRefused, digestOf};
 ghost use Rattle.leaf_passed.specs.declared.Unused as declared-unused;
 ghost use Rattle.leaf_passed.specs.Passed.{PassingOn, passedOver};
-ghost use Rattle.leaf_passed.specs.Behind.{firstCount};
 ghost use Rattle.leaf_digest.specs.Reply as gave;
 ghost use Rattle.leaf_within.specs.Reply.{gaveOut};
 ghost use Rattle.leaf_within.specs.Within.{most, atMost, splitCount, rowsNeeded, SplitFrom, SplitOver, Accepted, stepOf, Gathers};
@@ -50,16 +50,6 @@ pub struct DigestStep {
 }
 
 // ---- counts
-
-// The lesser and the greater of two numbers.
-fn lesser(a: usize, b: usize) -> usize
-    ensures { λ r. ⌜ r ≡ firstCount a b ⌝ }
-{
-    if a < b {
-        return a;
-    }
-    b
-}
 
 fn greater(a: usize, b: usize) -> usize
     ensures { λ r. ⌜ r ≡ most a b ⌝ }

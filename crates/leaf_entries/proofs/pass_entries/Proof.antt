@@ -41,7 +41,7 @@ use Rattle.leaf_work.specs.declared.Entry.{Entry}
 use Rattle.leaf_passed.specs.declared.Passing.{Passing}
 use Rattle.leaf_passed.specs.declared.Unused.{Unused}
 use Rattle.leaf_passed.specs.Passed.{PassingOn, passedOver}
-use Rattle.leaf_passed.specs.Behind.{firstCount, unusedFrom, unusedOver, marked}
+use Rattle.leaf_passed.specs.Behind.{lesserOf, unusedFrom, unusedOver, marked}
 use Rattle.leaf_passed.proofs.Behind.{the-pass-over-all, those-are-the-used-ones}
 use Rattle.leaf_work.proofs.Entry as N
 use Rattle.leaf_passed.proofs.Passing as P
@@ -138,7 +138,7 @@ module _ {M : Type 1} (𝓤 : URA M) (H : Heap 𝓤) (A : Atoms 𝓤) (W : Given
       nothing ! $ owned ! usize (Is usize) (uint-makes 𝓤 H A W w64) n _ (refl, fits) $ fjoin ! $ owned ! P.the-row (Is P.the-row) (LL.makes P.the-type P′.the-plain 𝓤 H A) c _ is-c $ fjoin ! $ nothing ! $ join ! $ frame ! $ done !
 
   abbrev Firsts : ℕ → Type 0
-  Firsts m = (m ≡ firstCount (c .bounds .used) n) × (m ≤ n)
+  Firsts m = (m ≡ lesserOf (c .bounds .used) n) × (m ≤ n)
 
   said₁ : (m : ℕ) → ent 𝓤 (ensured 𝓤 H A first-in.ended (first-in.clauses 𝓤 H A at-mem run) tt (c, (n, tt)) tt m) (fact 𝓤 (Firsts m))
   said₁ m = exE 𝓤 _ (λ ws. snd∗ 𝓤 (sem 𝓤 H A (lasts first-in.ended tt (c, (n, tt)) ws)) (fact 𝓤 (Firsts m)))

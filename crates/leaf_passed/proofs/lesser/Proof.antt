@@ -1,9 +1,9 @@
--- `leaf_within::lesser` meets its contract.
+-- `leaf_passed::lesser` meets its contract.
 -- Assumes nothing.
-use Rattle.leaf_within.proofs.Counts.{the-first-is-lesser, the-second-is-lesser}
+use Rattle.leaf_passed.proofs.Behind.{the-first-is-lesser, the-second-is-lesser}
 use borrow.Author.Needs.{needs}
-use Rattle.leaf_within.proofs.lesser.Statement.{statement}
-use Rattle.leaf_within.proofs.lesser.Tie as tie
+use Rattle.leaf_passed.proofs.lesser.Statement.{statement}
+use Rattle.leaf_passed.proofs.lesser.Tie as tie
 
 returns : tie.Need-returns
 returns c = search (the-first-is-lesser, needs)
