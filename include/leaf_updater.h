@@ -187,7 +187,7 @@ uint8_t leaf_open(LeafWork *work, LeafEntry *list, size_t list_len, uint8_t *sto
  * at least one was taken up just before it in this call, its place in the page is reported.
  * Leaves at most two new entries in the list, and the value in the store.
  * Refuses by: 1 to 6 for the base's page; 7; 8; 9 when waiting or done; 12; 13; 14; 15; 16. A deletion is never refused by 12, 15 or 16.
- * Stack: 2,816 bytes.
+ * Stack: 2,880 bytes.
  */
 LeafReport leaf_ingest(LeafWork *work, LeafEntry *list, size_t list_len, uint8_t *store, size_t store_len,
                        const uint8_t *page, size_t page_len, const uint8_t key[LEAF_KEY_SIZE], uint8_t put, uint8_t flag,
@@ -200,7 +200,7 @@ LeafReport leaf_ingest(LeafWork *work, LeafEntry *list, size_t list_len, uint8_t
  * Refuses by: 1 to 6 for the base's page; 7; 8; 9 when waiting or done; 17 where the area is shorter than LEAF_AREA_ASKED of the pending
  * body or the tickets shorter than LEAF_TICKETS_ASKED, also where it would give no leaf.
  * Nearly all of the stack is room for a list of 4,096 entries, however long the list is.
- * Stack: 298,880 bytes.
+ * Stack: 299,008 bytes.
  */
 LeafGave leaf_digest(LeafWork *work, LeafEntry *list, size_t list_len, uint8_t *store, size_t store_len,
                      const uint8_t *page, size_t page_len, uint8_t *area, size_t area_len, uint8_t *tickets,
@@ -210,7 +210,7 @@ LeafGave leaf_digest(LeafWork *work, LeafEntry *list, size_t list_len, uint8_t *
  * The next base of a work that waits, or is done and has a cutoff: its separator is at or above that cutoff. The work is then open.
  * Answers 0 or the refusal; changes the work record alone.
  * Refuses by: 1 to 6 for the new page; 7; 8 when waiting or done; 9 when open, or done without a cutoff; 13; 15; 16.
- * Stack: 2,432 bytes.
+ * Stack: 2,304 bytes.
  */
 uint8_t leaf_next_base(LeafWork *work, const LeafEntry *list, size_t list_len, const uint8_t *store, size_t store_len,
                        const uint8_t *page, size_t page_len, const uint8_t separator[LEAF_KEY_SIZE], uint8_t cut,
@@ -220,7 +220,7 @@ uint8_t leaf_next_base(LeafWork *work, const LeafEntry *list, size_t list_len, c
  * Removes the cutoff of a work that waits: there is no further leaf to merge with. The work is then open, with no base.
  * Answers 0 or the refusal; changes the work record alone.
  * Refuses by: 7; 8 when waiting or done; 9 when open or done.
- * Stack: 2,048 bytes.
+ * Stack: 1,920 bytes.
  */
 uint8_t leaf_remove_cutoff(LeafWork *work, const LeafEntry *list, size_t list_len, const uint8_t *store,
                            size_t store_len);
@@ -229,7 +229,7 @@ uint8_t leaf_remove_cutoff(LeafWork *work, const LeafEntry *list, size_t list_le
  * Pending record i, in every turn: the listed ones in order, then the base's rest. The value is len bytes from offset on, of the store or
  * of the base's page, as holder says. Only reads.
  * Refuses by: 1 to 6 for the base's page; 7; 8; 10 where i is not below the number of pending records.
- * Stack: 2,176 bytes.
+ * Stack: 2,304 bytes.
  */
 LeafTwinPlace leaf_twin(LeafWork work, const LeafEntry *list, size_t list_len, const uint8_t *store, size_t store_len,
                         const uint8_t *page, size_t page_len, size_t i);
@@ -237,7 +237,7 @@ LeafTwinPlace leaf_twin(LeafWork work, const LeafEntry *list, size_t list_len, c
 /*
  * Copies the value of pending record i to the start of out, if out has room for all of it, else nothing. Answers the value's length: 0
  * also where leaf_twin refuses, which tells a refusal from an empty value. Has no refusals of its own.
- * Stack: 2,240 bytes.
+ * Stack: 2,304 bytes.
  */
 size_t leaf_part(LeafWork work, const LeafEntry *list, size_t list_len, const uint8_t *store, size_t store_len,
                  const uint8_t *page, size_t page_len, size_t i, uint8_t *out, size_t out_len);
