@@ -5,13 +5,14 @@ use leaf_entries::unused_entries;
 use leaf_passed::begin_unused;
 use leaf_within::DigestStep;
 use leaf_within::digest_within;
+use leaf_within::room_needed;
 use leaf_within::split_count;
 use leaf_work::Entry;
 use leaf_work::Work;
 ghost use mathlib.Core.Path.{_≡_};
 ghost use Prim.Native.Nat.{_≤_};
 ghost use lib.ListN.{length};
-ghost use Rattle.leaf_within.specs.Within.{atMost};
+ghost use Rattle.leaf_within.specs.Within.{roomNeeded};
 ghost use Rattle.leaf_split.specs.Digests.{DigestSteps};
 
 // A digest with rows and keys lent for the list's entries.
@@ -25,7 +26,7 @@ fn digest_in(
     area: &mut [u8],
     tickets: &mut [u8],
 ) -> DigestStep
-    requires { ⌜ (atMost (length (now list)) ≤ length (now rows)) × (atMost (length (now list)) ≤ length (now keys)) ⌝ }
+    requires { ⌜ (roomNeeded work (length (now list)) ≤ length (now rows)) × (roomNeeded work (length (now list)) ≤ length (now keys)) ⌝ }
     ensures { λ r. ⌜ DigestSteps work (now (list .entry)) (now (store .entry)) (now (page .entry)) (now (area .entry)) (now (tickets .entry)) r (now (list .exit)) (now (store .exit)) (now (area .exit)) (now (tickets .exit)) ⌝ }
 {
     let count = split_count(work, list.len());
@@ -46,9 +47,9 @@ fn digest_in(
     step
 }
 
-// ---- room for rows and keys. Clearing it costs time, so a short list gets little of it.
+// ---- room for rows and keys. Clearing it costs time, so a digest that needs little gets little.
 
-// Rows and keys for a list of the least length.
+// Little room: enough for an untouched base.
 fn small_rows() -> [[usize; 5]; 128]
     ensures { λ r. ⌜ length r ≡ 128 ⌝ }
 {
@@ -69,7 +70,7 @@ fn digest_small(
     area: &mut [u8],
     tickets: &mut [u8],
 ) -> DigestStep
-    requires { ⌜ atMost (length (now list)) ≤ 128 ⌝ }
+    requires { ⌜ roomNeeded work (length (now list)) ≤ 128 ⌝ }
     ensures { λ r. ⌜ DigestSteps work (now (list .entry)) (now (store .entry)) (now (page .entry)) (now (area .entry)) (now (tickets .entry)) r (now (list .exit)) (now (store .exit)) (now (area .exit)) (now (tickets .exit)) ⌝ }
 {
     let mut rows = small_rows();
@@ -77,7 +78,7 @@ fn digest_small(
     digest_in(work, list, &mut rows, &mut keys, store, page, area, tickets)
 }
 
-// Rows and keys for a list of middling length.
+// Middling room.
 fn middle_rows() -> [[usize; 5]; 512]
     ensures { λ r. ⌜ length r ≡ 512 ⌝ }
 {
@@ -98,7 +99,7 @@ fn digest_middle(
     area: &mut [u8],
     tickets: &mut [u8],
 ) -> DigestStep
-    requires { ⌜ atMost (length (now list)) ≤ 512 ⌝ }
+    requires { ⌜ roomNeeded work (length (now list)) ≤ 512 ⌝ }
     ensures { λ r. ⌜ DigestSteps work (now (list .entry)) (now (store .entry)) (now (page .entry)) (now (area .entry)) (now (tickets .entry)) r (now (list .exit)) (now (store .exit)) (now (area .exit)) (now (tickets .exit)) ⌝ }
 {
     let mut rows = middle_rows();
@@ -106,7 +107,7 @@ fn digest_middle(
     digest_in(work, list, &mut rows, &mut keys, store, page, area, tickets)
 }
 
-// Rows and keys for as many entries as a work takes.
+// Room for as many entries as a work takes.
 fn large_rows() -> [[usize; 5]; 4096]
     ensures { λ r. ⌜ length r ≡ 4096 ⌝ }
 {
@@ -127,7 +128,7 @@ fn digest_large(
     area: &mut [u8],
     tickets: &mut [u8],
 ) -> DigestStep
-    requires { ⌜ atMost (length (now list)) ≤ 4096 ⌝ }
+    requires { ⌜ roomNeeded work (length (now list)) ≤ 4096 ⌝ }
     ensures { λ r. ⌜ DigestSteps work (now (list .entry)) (now (store .entry)) (now (page .entry)) (now (area .entry)) (now (tickets .entry)) r (now (list .exit)) (now (store .exit)) (now (area .exit)) (now (tickets .exit)) ⌝ }
 {
     let mut rows = large_rows();
@@ -137,7 +138,7 @@ fn digest_large(
 
 // ---- the call
 
-// A digest of a list that is longer than the least.
+// A digest that needs more than little room.
 fn digest_long(
     work: Work,
     list: &mut [Entry],
@@ -148,7 +149,8 @@ fn digest_long(
 ) -> DigestStep
     ensures { λ r. ⌜ DigestSteps work (now (list .entry)) (now (store .entry)) (now (page .entry)) (now (area .entry)) (now (tickets .entry)) r (now (list .exit)) (now (store .exit)) (now (area .exit)) (now (tickets .exit)) ⌝ }
 {
-    if list.len() < 513 {
+    let room = room_needed(work, list.len());
+    if room < 513 {
         let step = digest_middle(work, list, store, page, area, tickets);
         step
     } else {
@@ -168,7 +170,8 @@ pub fn digest_list(
 ) -> DigestStep
     ensures { λ r. ⌜ DigestSteps work (now (list .entry)) (now (store .entry)) (now (page .entry)) (now (area .entry)) (now (tickets .entry)) r (now (list .exit)) (now (store .exit)) (now (area .exit)) (now (tickets .exit)) ⌝ }
 {
-    if list.len() < 129 {
+    let room = room_needed(work, list.len());
+    if room < 129 {
         let step = digest_small(work, list, store, page, area, tickets);
         step
     } else {

@@ -28,10 +28,10 @@ use Rattle.leaf_digest.specs.Steps.{Leaves}
 use Rattle.leaf_digest.proofs.Calls.{lent-earns-nothing}
 use Rattle.leaf_within.specs.declared.DigestStep.{DigestStep}
 use Rattle.leaf_within.specs.Reply.{gaveOut}
-use Rattle.leaf_within.specs.Within.{most, atMost, rowsNeeded, SplitFrom, SplitOver, Accepted, givenBack, stepOf, Gathers}
-use Rattle.leaf_within.proofs.Counts.{greater-bounds, the-greater-is-within, a-short-list-is-all-there}
+use Rattle.leaf_within.specs.Within.{most, roomNeeded, rowsNeeded, SplitFrom, SplitOver, Accepted, givenBack, stepOf, Gathers}
+use Rattle.leaf_within.proofs.Counts.{greater-bounds, the-greater-is-within}
 use Rattle.leaf_within.proofs.Splits.{keysOf, a-digests-list-is-gathered-again}
-use Rattle.leaf_within.proofs.Shorter.{ready, a-row-for-each-record-is-there, the-used-entries-have-rows, so-many-entries, its-pending-records-are-the-same}
+use Rattle.leaf_within.proofs.Shorter.{a-row-for-each-record-is-there, the-rows-have-room, the-used-entries-have-rows, so-many-entries, its-pending-records-are-the-same}
 
 -- ---- lists of one thing
 
@@ -192,7 +192,7 @@ module _ (w : Work) (rows keys : List (List ℕ)) (store page area tickets : Lis
   counted : step .count ≡ g
   counted = ap (λ (x : DigestStep). x .count) is ∙ ap (λ (x : DigestReply). givenBack x g) (leaves .reply-is) ∙ all-given-back left (length (cut .leaves)) (w .cutoff) g
 
-  pub the-lists-digest-is-made : Gathers (digestOf 4096 w list store page area tickets) list step (rows′ ++ drop m rows) (keys′ ++ drop m keys) store′ area′ tickets′
+  pub the-lists-digest-is-made : Gathers w (digestOf 4096 w list store page area tickets) list step (rows′ ++ drop m rows) (keys′ ++ drop m keys) store′ area′ tickets′
   the-lists-digest-is-made = record {
     reply-is = ap (λ (x : DigestStep). x .reply) is ∙ ap gaveOut replied;
     work-is = ap (λ (x : DigestStep). x .work) is ∙ leaves .work-is ∙ ap (λ (x : Digested). x .work) done;
@@ -201,11 +201,11 @@ module _ (w : Work) (rows keys : List (List ℕ)) (store page area tickets : Lis
     area-is = leaves .area-is ∙ ap (λ (x : Digested). x .area) done;
     tickets-are = leaves .tickets-are ∙ ap (λ (x : Digested). x .tickets) done;
     few = omega (arith, counted, given-few, list-long);
-    fewer = omega (arith, counted, given-few, list-long, a-short-list-is-all-there (length list) (ready w rows keys store page area tickets list u s none .list-short));
+    fewer = omega (arith, counted, given-few, needed, the-rows-have-room w rows keys store page area tickets list u s none);
   }
 
 module _ (w : Work) (entries : ℕ) (rows keys : List (List ℕ)) (u : Unused) (store page area tickets : List ℕ)
-    (pre : (SplitOver w entries rows keys u) × (atMost entries ≤ length rows) × (atMost entries ≤ length keys)) (v : ℕ)
+    (pre : (SplitOver w entries rows keys u) × (roomNeeded w entries ≤ length rows) × (roomNeeded w entries ≤ length keys)) (v : ℕ)
     (e : (list : List Entry) → length list ≡ entries → SplitFrom w list rows keys u → v ≡ digestVerdict 4096 w (pendingOf w list store (regarded w page)) area tickets (lentVerdict 4096 w list store page)) where
   pub what-earns-nothing-is-accepted : v ≡ 0 → Accepted w rows keys store page area tickets
   what-earns-nothing-is-accepted z =
@@ -215,8 +215,8 @@ module _ (w : Work) (entries : ℕ) (rows keys : List (List ℕ)) (u : Unused) (
         unused = u;
         from = so .from;
         none = sym (e (so .list) (so .long) (so .from)) ∙ z;
-        rows-long = subst (λ (n : ℕ). atMost n ≤ length rows) (sym (so .long)) (pre .1);
-        keys-long = subst (λ (n : ℕ). atMost n ≤ length keys) (sym (so .long)) (pre .2);
+        rows-long = subst (λ (n : ℕ). roomNeeded w n ≤ length rows) (sym (so .long)) (pre .1);
+        keys-long = subst (λ (n : ℕ). roomNeeded w n ≤ length keys) (sym (so .long)) (pre .2);
       }
 
 -- ---- refused
@@ -229,6 +229,6 @@ module _ (w : Work) (rows keys : List (List ℕ)) (store page area tickets : Lis
       let k : digestVerdict 4096 w (pendingOf w list store (regarded w page)) area tickets (lentVerdict 4096 w list store page) ≡ 0 → ⊥ = λ z. h (e ∙ z) in
       rw (digestOn, ne-eqb (digestVerdict 4096 w (pendingOf w list store (regarded w page)) area tickets (lentVerdict 4096 w list store page)) 0 k, ← e)
 
-  pub a-refused-digest-gathers-nothing : (step : DigestStep) → step ≡ stepOf (DigestRefused v) w 0 → Gathers (digestOf 4096 w list store page area tickets) list step rows keys store area tickets
+  pub a-refused-digest-gathers-nothing : (step : DigestStep) → step ≡ stepOf (DigestRefused v) w 0 → Gathers w (digestOf 4096 w list store page area tickets) list step rows keys store area tickets
   a-refused-digest-gathers-nothing step k =
       rw (k, refused) (record { reply-is = refl; work-is = refl; list-is = refl; store-is = refl; area-is = refl; tickets-are = refl; few = omega arith; fewer = omega arith })

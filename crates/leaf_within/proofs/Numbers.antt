@@ -90,8 +90,8 @@ module _ (w : Work) (list : List Entry) (rows keys : List (List ℕ)) (u : Unuse
         let first : z ≡ passedOver page begun (take split list) = e ∙ ap (passedOver page begun) the-first-entries in
         the-pass-over-all page begun list split used-or-all z first u (s .looked) at m ∙ ap (λ (x : Passing). passedOver page x list) b
 
-pub as-many-are-there : {A : Type 0} (entries m : ℕ) → m ≤ atMost entries → (xs : List A) → atMost entries ≤ length xs → m ≡ length (take m xs)
-as-many-are-there entries m few xs h = sym (length-take-le m xs (omega arith))
+pub as-many-are-there : {A : Type 0} (room m : ℕ) → m ≤ room → (xs : List A) → room ≤ length xs → m ≡ length (take m xs)
+as-many-are-there room m few xs h = sym (length-take-le m xs (omega arith))
 
 -- ---- the number
 

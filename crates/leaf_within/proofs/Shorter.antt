@@ -1,5 +1,6 @@
 -- An accepted work is digested over the rows and keys of its used entries, and as many more as it has records. Assumes nothing.
 use mathlib.Core.Path.{_≡_, refl, sym, ap, subst, _∙_}
+use mathlib.Core.Logic.{inr}
 use mathlib.Core.List.{List, [], _∷_, _++_, map}
 use Prim.Native.Nat.{ℕ, _+_, _-_, _≤_, _<_}
 use native.Mathlib.Omega.{arith}
@@ -25,8 +26,8 @@ use Rattle.leaf_digest.specs.Steps.{Digests}
 use Rattle.leaf_digest.proofs.Calls.{the-regarded-page-can-be-counted, an-accepted-work-is-ready, the-pending-records-are-the-same, an-accepted-work-can-be-digested-over}
 use Rattle.leaf_step.proofs.Closed.{a-page-has-4096-bytes}
 use Rattle.leaf_passed.proofs.Behind.{lesser-bounds}
-use Rattle.leaf_within.specs.Within.{most, atMost, splitCount, rowsNeeded, SplitFrom, Accepted}
-use Rattle.leaf_within.proofs.Counts.{greater-bounds, the-greater-is-within, a-short-list-is-all-there}
+use Rattle.leaf_within.specs.Within.{most, atMost, splitCount, roomNeeded, rowsNeeded, SplitFrom, Accepted}
+use Rattle.leaf_within.proofs.Counts.{greater-bounds, the-greater-is-within, a-short-list-is-all-there, room-bounds}
 use Rattle.leaf_within.proofs.Splits.{keysOf, entries-in-front}
 
 keyed : (es : List Entry) → All (λ (k : List ℕ). length k ≡ 32) (keysOf es) → All EntryKeyed es
@@ -43,6 +44,19 @@ module _ (w : Work) (rows keys : List (List ℕ)) (store page area tickets : Lis
 
   pub a-row-for-each-record-is-there : rowsNeeded w (count p) ≤ length list
   a-row-for-each-record-is-there = the-greater-is-within 1 (w .count + (count p - w .low)) (length list) (ready .list-there) (ready .list-room)
+
+  records-few : count p ≤ 120
+  records-few = elim (decLt 0 (count p)) [
+    | yes h ↦
+        let good = the-regarded-page-can-be-counted 4096 w list store page area tickets none p refl .good (omega (arith, ready .laid h .inside)) in
+        omega (arith, ready .laid h .inside, good .sized)
+    | no h ↦ omega arith
+  ]
+
+  pub the-rows-have-room : rowsNeeded w (count p) ≤ roomNeeded w (length list)
+  the-rows-have-room =
+      room-bounds (length list) w (rowsNeeded w (count p)) (omega (arith, a-row-for-each-record-is-there, a-short-list-is-all-there (length list) (ready .list-short)))
+      (inr (the-greater-is-within 1 (w .count + (count p - w .low)) (w .count + 121) (omega arith) (omega (arith, records-few))))
 
   pub the-used-entries-have-rows : w .used ≤ rowsNeeded w (count p)
   the-used-entries-have-rows = omega (arith, ready .used-few, greater-bounds 1 (w .count + (count p - w .low)) .1)
@@ -138,9 +152,8 @@ module _ (w : Work) (rows keys : List (List ℕ)) (store page area tickets : Lis
     as-needed : m ≡ rowsNeeded w (count (regarded w page))
     as-needed = g ∙ ap (rowsNeeded w) (f ∙ ap count e)
 
-    rows-there : m ≤ atMost (length (a .list))
-    rows-there =
-        omega (arith, as-needed, a-row-for-each-record-is-there w rows keys store page area tickets (a .list) (a .unused) (a .from) (a .none), a-short-list-is-all-there (length (a .list)) (r .list-short))
+    rows-there : m ≤ roomNeeded w (length (a .list))
+    rows-there = rw as-needed (the-rows-have-room w rows keys store page area tickets (a .list) (a .unused) (a .from) (a .none))
 
     pub there-are-rows : (m ≤ length rows) × (m ≤ length keys)
     there-are-rows = (omega (arith, rows-there, a .rows-long), omega (arith, rows-there, a .keys-long))

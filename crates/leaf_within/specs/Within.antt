@@ -32,6 +32,10 @@ atMost entries = oneOf (leb entries mostEntries) entries mostEntries
 abbrev pub splitCount : Work → ℕ → ℕ
 splitCount w entries = lesserOf (w .used) (atMost entries)
 
+-- a row for each entry that is said to be used and each record that may be pending: a base has no more than 120
+unfoldable pub roomNeeded : Work → ℕ → ℕ
+roomNeeded w entries = lesserOf (most (w .used) (w .count + 121)) (atMost entries)
+
 -- a row for each pending record
 abbrev pub rowsNeeded : Work → ℕ → ℕ
 rowsNeeded w n = most 1 (w .count + (n - w .low))
@@ -58,8 +62,8 @@ pub record Accepted (w : Work) (rows keys : List (List ℕ)) (store page area ti
   pub unused : Unused
   pub from : SplitFrom w list rows keys unused
   pub none : digestVerdict 4096 w (pendingOf w list store (regarded w page)) area tickets (lentVerdict 4096 w list store page) ≡ 0
-  pub rows-long : atMost (length list) ≤ length rows
-  pub keys-long : atMost (length list) ≤ length keys
+  pub rows-long : roomNeeded w (length list) ≤ length rows
+  pub keys-long : roomNeeded w (length list) ≤ length keys
 
 -- ---- after it
 
@@ -73,7 +77,7 @@ abbrev pub stepOf : DigestReply → Work → ℕ → DigestStep
 stepOf reply w count = record { reply = gaveOut reply; work = w; count = givenBack reply count }
 
 -- what a digest with the outcome o leaves of its list, by the rows and keys that are given back
-pub record Gathers (o : Digested) (list : List Entry) (r : DigestStep) (rows′ keys′ : List (List ℕ)) (store′ area′ tickets′ : List ℕ) : Type 0 where
+pub record Gathers (w : Work) (o : Digested) (list : List Entry) (r : DigestStep) (rows′ keys′ : List (List ℕ)) (store′ area′ tickets′ : List ℕ) : Type 0 where
   pub reply-is : r .reply ≡ gaveOut (o .reply)
   pub work-is : r .work ≡ o .work
   pub list-is : laid (gathered (take (r .count) rows′) (take (r .count) keys′)) list ≡ o .list
@@ -81,4 +85,4 @@ pub record Gathers (o : Digested) (list : List Entry) (r : DigestStep) (rows′ 
   pub area-is : area′ ≡ o .area
   pub tickets-are : tickets′ ≡ o .tickets
   pub few : r .count ≤ length list
-  pub fewer : r .count ≤ atMost (length list)
+  pub fewer : r .count ≤ roomNeeded w (length list)

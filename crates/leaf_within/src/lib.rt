@@ -30,7 +30,7 @@ ghost use Rattle.leaf_passed.specs.declared.Unused as declared-unused;
 ghost use Rattle.leaf_passed.specs.Passed.{PassingOn, passedOver};
 ghost use Rattle.leaf_digest.specs.Reply as gave;
 ghost use Rattle.leaf_within.specs.Reply.{gaveOut};
-ghost use Rattle.leaf_within.specs.Within.{most, atMost, splitCount, rowsNeeded, SplitFrom, SplitOver, Accepted, stepOf, Gathers};
+ghost use Rattle.leaf_within.specs.Within.{most, atMost, splitCount, roomNeeded, rowsNeeded, SplitFrom, SplitOver, Accepted, stepOf, Gathers};
 
 // A digest's answer: 0 or the refusal, whether it waits for a merge, 1 or 0, how many leaves it gave, and the cutoff for which it waits,
 // else zeros.
@@ -60,14 +60,33 @@ fn greater(a: usize, b: usize) -> usize
     a
 }
 
-// How many entries of a list are split into rows and keys: the used ones, and no more than a work takes.
-pub fn split_count(work: Work, entries: usize) -> usize
-    ensures { λ r. ⌜ (r ≡ splitCount work entries) × (r ≤ entries) × (r ≤ atMost entries) ⌝ }
+// How many entries a list has, and no more than a work takes.
+fn at_most(entries: usize) -> usize
+    ensures { λ r. ⌜ (r ≡ atMost entries) × (r ≤ 4096) ⌝ }
 {
     if entries <= MOST_ENTRIES {
-        return lesser(work.used, entries);
+        return entries;
     }
-    lesser(work.used, MOST_ENTRIES)
+    MOST_ENTRIES
+}
+
+// How many rows a digest may need: one for each entry that is said to be used and each record that may be pending, and no more than the list has
+// entries. It is asked before anything is checked.
+pub fn room_needed(work: Work, entries: usize) -> usize
+    ensures { λ r. ⌜ (r ≡ roomNeeded work entries) × (r ≤ 4096) ⌝ }
+{
+    let all = at_most(entries);
+    if MOST_ENTRIES < work.count {
+        return all;
+    }
+    lesser(greater(work.used, work.count + 121), all)
+}
+
+// How many entries of a list are split into rows and keys: the used ones, and no more than a work takes.
+pub fn split_count(work: Work, entries: usize) -> usize
+    ensures { λ r. ⌜ (r ≡ splitCount work entries) × (r ≤ entries) × (r ≤ roomNeeded work entries) ⌝ }
+{
+    lesser(work.used, at_most(entries))
 }
 
 // How many rows a digest needs: one for each pending record, so that those which it keeps have room; the base has n records.
@@ -112,7 +131,7 @@ fn digest_number(
     area: &[u8],
     tickets: &[u8],
 ) -> u8
-    requires { ⌜ (SplitOver work entries (now rows) (now keys) unused) × (atMost entries ≤ length (now rows)) × (atMost entries ≤ length (now keys)) ⌝ }
+    requires { ⌜ (SplitOver work entries (now rows) (now keys) unused) × (roomNeeded work entries ≤ length (now rows)) × (roomNeeded work entries ≤ length (now keys)) ⌝ }
     ensures { λ r. ⌜ ((list : List declared.Entry) → length list ≡ entries → SplitFrom work list (now (rows .entry)) (now (keys .entry)) unused → r ≡ digestVerdict 4096 work (pendingOf work list (now (store .entry)) (regarded work (now (page .entry)))) (now (area .entry)) (now (tickets .entry)) (lentVerdict 4096 work list (now (store .entry)) (now (page .entry)))) ⌝ }
 {
     let count = split_count(work, entries);
@@ -181,7 +200,7 @@ fn digest_split(
     tickets: &mut [u8],
 ) -> DigestStep
     requires { ⌜ Accepted work (now rows) (now keys) (now store) (now page) (now area) (now tickets) ⌝ }
-    ensures { λ r. ⌜ ((list : List declared.Entry) → (unused : declared-unused.Unused) → SplitFrom work list (now (rows .entry)) (now (keys .entry)) unused → digestVerdict 4096 work (pendingOf work list (now (store .entry)) (regarded work (now (page .entry)))) (now (area .entry)) (now (tickets .entry)) (lentVerdict 4096 work list (now (store .entry)) (now (page .entry))) ≡ 0 → Gathers (digestOf 4096 work list (now (store .entry)) (now (page .entry)) (now (area .entry)) (now (tickets .entry))) list r (now (rows .exit)) (now (keys .exit)) (now (store .exit)) (now (area .exit)) (now (tickets .exit))) ⌝ }
+    ensures { λ r. ⌜ ((list : List declared.Entry) → (unused : declared-unused.Unused) → SplitFrom work list (now (rows .entry)) (now (keys .entry)) unused → digestVerdict 4096 work (pendingOf work list (now (store .entry)) (regarded work (now (page .entry)))) (now (area .entry)) (now (tickets .entry)) (lentVerdict 4096 work list (now (store .entry)) (now (page .entry))) ≡ 0 → Gathers work (digestOf 4096 work list (now (store .entry)) (now (page .entry)) (now (area .entry)) (now (tickets .entry))) list r (now (rows .exit)) (now (keys .exit)) (now (store .exit)) (now (area .exit)) (now (tickets .exit))) ⌝ }
 {
     let base = regard(work, page);
     let n = records_in(base, PAGE_SIZE);
@@ -216,8 +235,8 @@ pub fn digest_within(
     area: &mut [u8],
     tickets: &mut [u8],
 ) -> DigestStep
-    requires { ⌜ (SplitOver work entries (now rows) (now keys) unused) × (atMost entries ≤ length (now rows)) × (atMost entries ≤ length (now keys)) ⌝ }
-    ensures { λ r. ⌜ ((list : List declared.Entry) → length list ≡ entries → SplitFrom work list (now (rows .entry)) (now (keys .entry)) unused → Gathers (digestOf 4096 work list (now (store .entry)) (now (page .entry)) (now (area .entry)) (now (tickets .entry))) list r (now (rows .exit)) (now (keys .exit)) (now (store .exit)) (now (area .exit)) (now (tickets .exit))) ⌝ }
+    requires { ⌜ (SplitOver work entries (now rows) (now keys) unused) × (roomNeeded work entries ≤ length (now rows)) × (roomNeeded work entries ≤ length (now keys)) ⌝ }
+    ensures { λ r. ⌜ ((list : List declared.Entry) → length list ≡ entries → SplitFrom work list (now (rows .entry)) (now (keys .entry)) unused → Gathers work (digestOf 4096 work list (now (store .entry)) (now (page .entry)) (now (area .entry)) (now (tickets .entry))) list r (now (rows .exit)) (now (keys .exit)) (now (store .exit)) (now (area .exit)) (now (tickets .exit))) ⌝ }
 {
     let number = digest_number(
         work,

@@ -51,7 +51,7 @@ use Rattle.leaf_passed.specs.declared.Unused.{Unused}
 use Rattle.leaf_passed.specs.Behind.{unusedFrom, unusedOver}
 use Rattle.leaf_entries.specs.Lists.{laid, gathered}
 use Rattle.leaf_within.specs.declared.DigestStep.{DigestStep}
-use Rattle.leaf_within.specs.Within.{atMost, splitCount, SplitFrom, SplitOver, Gathers}
+use Rattle.leaf_within.specs.Within.{splitCount, roomNeeded, SplitFrom, SplitOver, Gathers}
 use Rattle.leaf_split.specs.Digests.{DigestSteps}
 use Rattle.leaf_entries.proofs.Locals.{tyAt}
 use Rattle.leaf_entries.proofs.Shared.{LentShared, shares-again, shared-back, shares-again-at, shared-back-at}
@@ -141,7 +141,7 @@ module _ {M : Type 1} (𝓤 : URA M) (H : Heap 𝓤) (A : Atoms 𝓤) (mem : Mem
 
 module _ {M : Type 1} (𝓤 : URA M) (H : Heap 𝓤) (A : Atoms 𝓤) (W : Given 𝓤 H A) (at-mem : Memory → SProp 𝓤) (run : Routine → Fun 𝓤) (κ₀ κ₁ κ₂ κ₃ κ₄ κ₅ κ₆ : Lft) (q₀ q₁ q₂ q₃ q₄ q₅ q₆ : Share)
     (w₀ : Work) (is-w : Is K.the-row w₀ (machK w₀ ∷ [])) (b₁ o₁ : ℕ) (γ₁ : GName) (es : List Entry) (b₂ o₂ : ℕ) (γ₂ : GName) (rows : List (List ℕ)) (b₃ o₃ : ℕ) (γ₃ : GName) (keys : List (List ℕ)) (s p area tickets : RefT (List ℕ))
-    (rows-long : atMost (length es) ≤ length rows) (keys-long : atMost (length es) ≤ length keys) where
+    (rows-long : roomNeeded w₀ (length es) ≤ length rows) (keys-long : roomNeeded w₀ (length es) ≤ length keys) where
   abbrev n : ℕ
   n = length es
 
@@ -192,7 +192,7 @@ module _ {M : Type 1} (𝓤 : URA M) (H : Heap 𝓤) (A : Atoms 𝓤) (W : Given
       nothing ! $ owned ! usize (Is usize) (uint-makes 𝓤 H A W w64) n _ (refl, fits) $ fjoin ! $ owned ! K.the-row (Is K.the-row) (LL.makes K.the-type K′.the-plain 𝓤 H A) w₀ _ is-w $ fjoin ! $ nothing ! $ join ! $ frame ! $ done !
 
   abbrev Counted : ℕ → Type 0
-  Counted m = (m ≡ splitCount w₀ n) × (m ≤ n) × (m ≤ atMost n)
+  Counted m = (m ≡ splitCount w₀ n) × (m ≤ n) × (m ≤ roomNeeded w₀ n)
 
   said₁ : (m : ℕ) → ent 𝓤 (ensured 𝓤 H A count.ended (count.clauses 𝓤 H A at-mem run) tt (w₀, (n, tt)) tt m) (fact 𝓤 (Counted m))
   said₁ m = exE 𝓤 _ (λ ws. snd∗ 𝓤 (sem 𝓤 H A (lasts count.ended tt (w₀, (n, tt)) ws)) (fact 𝓤 (Counted m)))
@@ -232,7 +232,7 @@ module _ {M : Type 1} (𝓤 : URA M) (H : Heap 𝓤) (A : Atoms 𝓤) (W : Given
   abbrev Fits : ℕ → Type 0
   Fits m = (m ≤ n) × (m ≤ length rows) × (m ≤ length keys)
 
-  fit : (m : ℕ) → m ≤ n → m ≤ atMost n → Fits m
+  fit : (m : ℕ) → m ≤ n → m ≤ roomNeeded w₀ n → Fits m
   fit m few within = (few, omega (arith, within, rows-long), omega (arith, within, keys-long))
 
   abbrev lent₄ : (ν₁ ν₂ ν₃ : ℕ) (δ₁ δ₂ δ₃ : GName) → List (Item 𝓤)
@@ -279,7 +279,7 @@ module _ {M : Type 1} (𝓤 : URA M) (H : Heap 𝓤) (A : Atoms 𝓤) (W : Given
       ∷ ‵ (MutSlice (named 3) κ₃ u8 .own s (sl s ∷ [])) ∷ ‵ Page ∷ ‵ (MutSlice (named 5) κ₅ u8 .own area (sl area ∷ [])) ∷ ‵ (MutSlice (named 6) κ₆ u8 .own tickets (sl tickets ∷ [])) ∷ []
 
   abbrev Asked : Unused → List (List ℕ) → List (List ℕ) → Type 0
-  Asked u rs ks = (SplitOver w₀ n rs ks u) × (atMost n ≤ length rs) × (atMost n ≤ length ks)
+  Asked u rs ks = (SplitOver w₀ n rs ks u) × (roomNeeded w₀ n ≤ length rs) × (roomNeeded w₀ n ≤ length ks)
 
   asks₅ : (ν₁ ν₂ : ℕ) (u : Unused) (w : Val) → Is U.the-row u (w ∷ []) → (δ₁ : GName) (rs : List (List ℕ)) (δ₂ : GName) (ks : List (List ℕ)) → n < 2 ^ 64 → Asked u rs ks → ent 𝓤 (⋆ 𝓤 H A (lent₅ ν₁ ν₂ δ₁ rs δ₂ ks)) (Within 𝓤 H A at-mem run .pre (to₅ ν₁ ν₂ u w δ₁ rs δ₂ ks))
   asks₅ ν₁ ν₂ u w is δ₁ rs δ₂ ks fits asked =
@@ -296,7 +296,7 @@ module _ {M : Type 1} (𝓤 : URA M) (H : Heap 𝓤) (A : Atoms 𝓤) (W : Given
 
   -- what it says of its result and of what is lent, of any list from which rows and keys were split
   abbrev Said : Unused → List (List ℕ) → List (List ℕ) → DigestStep → List (List ℕ) → List (List ℕ) → List ℕ → List ℕ → List ℕ → Type 0
-  Said u rs ks r rs′ ks′ us pg ts = (l : List Entry) → length l ≡ n → SplitFrom w₀ l rs ks u → Gathers (outcome l) l r rs′ ks′ us pg ts
+  Said u rs ks r rs′ ks′ us pg ts = (l : List Entry) → length l ≡ n → SplitFrom w₀ l rs ks u → Gathers w₀ (outcome l) l r rs′ ks′ us pg ts
 
   -- `gather`
   abbrev args₆ : GName → List (List ℕ) → GName → List (List ℕ) → ℕ → RefT (List Entry) × (RefT (List (List ℕ)) × (RefT (List (List ℕ)) × (ℕ × Unit {0})))
@@ -333,11 +333,11 @@ module _ {M : Type 1} (𝓤 : URA M) (H : Heap 𝓤) (A : Atoms 𝓤) (W : Given
   split-over : (m : ℕ) (b u : Unused) (rs ks : List (List ℕ)) → Counted m → b ≡ unusedFrom m → u ≡ unusedOver b es → Splits m rs ks → SplitOver w₀ n rs ks u
   split-over m b u rs ks f₁ f₂ f₃ f₄ = record { list = es; long = refl; from = split-from m b u rs ks f₁ f₂ f₃ f₄ }
 
-  longer : (xs ys : List (List ℕ)) → atMost n ≤ length xs → length ys ≡ length xs → atMost n ≤ length ys
+  longer : (xs ys : List (List ℕ)) → roomNeeded w₀ n ≤ length xs → length ys ≡ length xs → roomNeeded w₀ n ≤ length ys
   longer xs ys h e = omega (arith, h, e)
 
   module _ (u : Unused) (rs ks : List (List ℕ)) (r : DigestStep) (rs′ ks′ : List (List ℕ)) (us pg ts : List ℕ) (m : ℕ) (b : Unused) (f₁ : Counted m) (f₂ : b ≡ unusedFrom m) (f₃ : u ≡ unusedOver b es) (f₄ : Splits m rs ks) (f₅ : Said u rs ks r rs′ ks′ us pg ts) where
-    abbrev said : Gathers (outcome es) es r rs′ ks′ us pg ts
+    abbrev said : Gathers w₀ (outcome es) es r rs′ ks′ us pg ts
     said = f₅ es refl (split-from m b u rs ks f₁ f₂ f₃ f₄)
 
     fits-back : length rs′ ≡ length rows → length ks′ ≡ length keys → (r .count ≤ n) × (r .count ≤ length rs′) × (r .count ≤ length ks′)
@@ -479,7 +479,7 @@ module _ {M : Type 1} (𝓤 : URA M) (H : Heap 𝓤) (A : Atoms 𝓤) (W : Given
   digest-in-walks = walked 𝓤 H A own.ended stayed (own.clauses 𝓤 H A mem run) (WpFn 𝓤 H (𝓣 .C) (𝓣 .Λ) code.function)
       (λ κs. (LL.vals K.the-type K′.the-laws, (slice-vals, (slice-vals, (slice-vals, (slice-vals, (slice-vals, (slice-vals, (slice-vals, tt)))))))))
       (λ κs. (LL.tells K.the-type K′.the-laws, (mut-slice-tells (named 0) (κs .0) E, (mut-slice-tells (named 1) (κs .1 .0) R, (mut-slice-tells (named 2) (κs .1 .1 .0) B, (mut-slice-tells (named 3) (κs .1 .1 .1 .0) u8, (shr-slice-tells (named 4) (κs .1 .1 .1 .1 .0) u8, (mut-slice-tells (named 5) (κs .1 .1 .1 .1 .1 .0) u8, (mut-slice-tells (named 6) (κs .1 .1 .1 .1 .1 .1 .0) u8, tt)))))))))
-      (λ κs qs bounds a g are. needs 𝓤 ((atMost (length (a .1 .0 .now)) ≤ length (a .1 .1 .0 .now)) × (atMost (length (a .1 .0 .now)) ≤ length (a .1 .1 .1 .0 .now))) _ (λ (long, longer).
+      (λ κs qs bounds a g are. needs 𝓤 ((roomNeeded (a .0) (length (a .1 .0 .now)) ≤ length (a .1 .1 .0 .now)) × (roomNeeded (a .0) (length (a .1 .0 .now)) ≤ length (a .1 .1 .1 .0 .now))) _ (λ (long, longer).
       walk 𝓤 H A W mem run (κs .0) (κs .1 .0) (κs .1 .1 .0) (κs .1 .1 .1 .0) (κs .1 .1 .1 .1 .0) (κs .1 .1 .1 .1 .1 .0) (κs .1 .1 .1 .1 .1 .1 .0) (qs .0) (qs .1 .0) (qs .1 .1 .0) (qs .1 .1 .1 .0) (qs .1 .1 .1 .1 .0) (qs .1 .1 .1 .1 .1 .0) (qs .1 .1 .1 .1 .1 .1 .0)
       (a .0) (are .0) (a .1 .0 .ptr .0) (a .1 .0 .ptr .1) (a .1 .0 .name) (a .1 .0 .now) (a .1 .1 .0 .ptr .0) (a .1 .1 .0 .ptr .1) (a .1 .1 .0 .name) (a .1 .1 .0 .now) (a .1 .1 .1 .0 .ptr .0) (a .1 .1 .1 .0 .ptr .1) (a .1 .1 .1 .0 .name) (a .1 .1 .1 .0 .now) (a .1 .1 .1 .1 .0) (a .1 .1 .1 .1 .1 .0) (a .1 .1 .1 .1 .1 .1 .0) (a .1 .1 .1 .1 .1 .1 .1 .0)
       long longer (𝓣 .C) (𝓣 .Λ) (fmOf 𝓤 H (W .laws) 𝓣) known₁ known₂ known₃ known₄ known₅ known₆ (are .1 .0 .0 .1) (are .1 .1 .0 .0 .1) (are .1 .1 .1 .0 .0 .1) (are .1 .1 .1 .1 .0 .0 .1) (are .1 .1 .1 .1 .1 .0 .0 .1) (are .1 .1 .1 .1 .1 .1 .0 .0 .1) (are .1 .1 .1 .1 .1 .1 .1 .0 .0 .1)))

@@ -45,7 +45,7 @@ use denote.Signature.{plain}
 use Rattle.leaf_work.specs.declared.Work.{Work}
 use Rattle.leaf_work.specs.declared.Entry.{Entry}
 use Rattle.leaf_within.specs.declared.DigestStep.{DigestStep}
-use Rattle.leaf_within.specs.Within.{atMost}
+use Rattle.leaf_within.specs.Within.{roomNeeded}
 use Rattle.leaf_split.specs.Digests.{DigestSteps}
 use Rattle.leaf_entries.proofs.Locals.{tyAt}
 use Rattle.leaf_entries.proofs.LocalArray.{lends-local, local-back}
@@ -104,7 +104,7 @@ module _ {M : Type 1} (𝓤 : URA M) (H : Heap 𝓤) (A : Atoms 𝓤) (mem : Mem
   In = tripleOf 𝓤 H A digest-in.signature (digest-in.spec 𝓤 H A mem run)
 
 module _ {M : Type 1} (𝓤 : URA M) (H : Heap 𝓤) (A : Atoms 𝓤) (W : Given 𝓤 H A) (at-mem : Memory → SProp 𝓤) (run : Routine → Fun 𝓤) (κ₀ κ₁ κ₂ κ₃ κ₄ : Lft) (q₀ q₁ q₂ q₃ q₄ : Share)
-    (w₀ : Work) (is-w : Is K.the-row w₀ (machK w₀ ∷ [])) (x : RefT (List Entry)) (s p area tickets : RefT (List ℕ)) (long : atMost (length (x .now)) ≤ 512) where
+    (w₀ : Work) (is-w : Is K.the-row w₀ (machK w₀ ∷ [])) (x : RefT (List Entry)) (s p area tickets : RefT (List ℕ)) (long : roomNeeded w₀ (length (x .now)) ≤ 512) where
   abbrev es : List Entry
   es = x .now
 
@@ -192,7 +192,7 @@ module _ {M : Type 1} (𝓤 : URA M) (H : Heap 𝓤) (A : Atoms 𝓤) (W : Given
   lent₃ ν₁ ν₂ l δ₁ rows j δ₂ keys = ‵ (flft κ₀ q₀) ∷ ‵ (flft (ν₁ ∷ []) fullShare) ∷ ‵ (flft (ν₂ ∷ []) fullShare) ∷ rest ∷ ‵ (MutSlice (named 0) κ₀ E .own x (sl x ∷ [])) ∷ ‵ (MutSlice (named 0) (ν₁ ∷ []) R .own (y l δ₁ rows) (sA l ∷ [])) ∷ ‵ (MutSlice (named 0) (ν₂ ∷ []) B .own (y j δ₂ keys) (sA j ∷ []))
       ∷ ‵ (MutSlice (named 1) κ₁ u8 .own s (sl s ∷ [])) ∷ ‵ Page ∷ ‵ (MutSlice (named 3) κ₃ u8 .own area (sl area ∷ [])) ∷ ‵ (MutSlice (named 4) κ₄ u8 .own tickets (sl tickets ∷ [])) ∷ []
 
-  asked₃ : (ν₁ ν₂ l : ℕ) (δ₁ : GName) (rows : List (List ℕ)) (j : ℕ) (δ₂ : GName) (keys : List (List ℕ)) → (atMost n ≤ length rows) × (atMost n ≤ length keys) → ent 𝓤 (⋆ 𝓤 H A (lent₃ ν₁ ν₂ l δ₁ rows j δ₂ keys)) (In 𝓤 H A at-mem run .pre (to₃ ν₁ ν₂ l δ₁ rows j δ₂ keys))
+  asked₃ : (ν₁ ν₂ l : ℕ) (δ₁ : GName) (rows : List (List ℕ)) (j : ℕ) (δ₂ : GName) (keys : List (List ℕ)) → (roomNeeded w₀ n ≤ length rows) × (roomNeeded w₀ n ≤ length keys) → ent 𝓤 (⋆ 𝓤 H A (lent₃ ν₁ ν₂ l δ₁ rows j δ₂ keys)) (In 𝓤 H A at-mem run .pre (to₃ ν₁ ν₂ l δ₁ rows j δ₂ keys))
   asked₃ ν₁ ν₂ l δ₁ rows j δ₂ keys asked =
       qed W (lent₃ ν₁ ν₂ l δ₁ rows j δ₂ keys) ∵ says ! asked $
       nothing ! $ move ! (11 ∷ 0 ∷ []) $ fjoin ! $ move ! (10 ∷ 0 ∷ []) $ fjoin ! $ move ! (9 ∷ 0 ∷ []) $ fjoin ! $ move ! (8 ∷ 0 ∷ []) $ fjoin ! $ move ! (7 ∷ 0 ∷ []) $ fjoin ! $ move ! (6 ∷ 0 ∷ []) $ fjoin ! $ move ! (5 ∷ 0 ∷ []) $ fjoin ! $ owned ! K.the-row (Is K.the-row) (LL.makes K.the-type K′.the-plain 𝓤 H A) w₀ _ is-w $ fjoin ! $
@@ -243,7 +243,7 @@ module _ {M : Type 1} (𝓤 : URA M) (H : Heap 𝓤) (A : Atoms 𝓤) (W : Given
         move ! (39 ∷ 3 ∷ []) $ use2 W (later (some (λ (γ : GName). ‵ (MutSlice (named 0) (ν₁ ∷ []) R .own (y l₇ γ rows) (sA l₇ ∷ [])) ⊛ ‵ (flent (ν₁ ∷ []) (Held R 512 l₇ 0 γ))))) (lends-local 𝓤 H A W R tt 512 l₇ (ν₁ ∷ []) (named 0) rows w₁ (lit< tt, lit< tt)) $ await ! tt $ pick ! (λ δ₁. split ! $
         move ! (38 ∷ 4 ∷ []) $ use2 W (later (some (λ (γ : GName). ‵ (MutSlice (named 0) (ν₂ ∷ []) B .own (y l₈ γ keys) (sA l₈ ∷ [])) ⊛ ‵ (flent (ν₂ ∷ []) (Held B 512 l₈ 0 γ))))) (lends-local 𝓤 H A W B tt 512 l₈ (ν₂ ∷ []) (named 0) keys w₂ (lit< tt, lit< tt)) $ await ! tt $ pick ! (λ δ₂. split ! $
         move ! (8 ∷ []) $ use1 W (‵ Page ⊛ ‵ Page) (shr-slice-copy 𝓤 H A W (named 2) κ₂ u8 .twice p (sl p ∷ [])) $ split ! $
-        move ! (56 ∷ []) $ split ! $ move ! (0 ∷ 9 ∷ 8 ∷ 1 ∷ 13 ∷ 6 ∷ 4 ∷ 12 ∷ 2 ∷ 11 ∷ 10 ∷ []) $ group ! 11 $ use1 W (raw (In 𝓤 H A at-mem run .pre (to₃ ν₁ ν₂ l₇ δ₁ rows l₈ δ₂ keys))) (asked₃ ν₁ ν₂ l₇ δ₁ rows l₈ δ₂ keys (subst (λ (k : ℕ). atMost n ≤ k) (sym len₁) long, subst (λ (k : ℕ). atMost n ≤ k) (sym len₂) long)) $
+        move ! (56 ∷ []) $ split ! $ move ! (0 ∷ 9 ∷ 8 ∷ 1 ∷ 13 ∷ 6 ∷ 4 ∷ 12 ∷ 2 ∷ 11 ∷ 10 ∷ []) $ group ! 11 $ use1 W (raw (In 𝓤 H A at-mem run .pre (to₃ ν₁ ν₂ l₇ δ₁ rows l₈ δ₂ keys))) (asked₃ ν₁ ν₂ l₇ δ₁ rows l₈ δ₂ keys (subst (λ (k : ℕ). roomNeeded w₀ n ≤ k) (sym len₁) long, subst (λ (k : ℕ). roomNeeded w₀ n ≤ k) (sym len₂) long)) $
         calls-at ! fm (In 𝓤 H A at-mem run) known₃ (to₃ ν₁ ν₂ l₇ δ₁ rows l₈ δ₂ keys) (and-then ! (load ! (from ! (stop !)) (look ! 44 refl)) (and-then ! (load ! (from ! (stop !)) (look ! 24 refl)) (and-then ! (load ! (from ! (stop !)) (look ! 20 refl)) (and-then ! (load ! (from ! (stop !)) (look ! 16 refl)) (and-then ! (load ! (from ! (stop !)) (look ! 12 refl)) (and-then ! (load ! (from ! (stop !)) (look ! 38 refl)) (and-then ! (load ! (from ! (stop !)) (look ! 8 refl)) (and-then ! (load ! (from ! (stop !)) (look ! 4 refl)) (no-more !))))))))) (λ w₃.
         use1 W (later (some (λ (r : DigestStep). (toks₃ ν₁ ν₂ ⊛ ‵ (Q.the-row .own r (w₃ ∷ []))) ⊛ raw (ensured 𝓤 H A digest-in.ended (digest-in.clauses 𝓤 H A at-mem run) (κs₃ ν₁ ν₂) (args₃ l₇ δ₁ rows l₈ δ₂ keys) tt r)))) (id⊢ 𝓤 _) $ await ! tt $ pick ! (λ r₃.
         split ! $ move ! (1 ∷ []) $ use1 W (some (λ (ls : Lasts₃). ‵ (lasts digest-in.ended (κs₃ ν₁ ν₂) (args₃ l₇ δ₁ rows l₈ δ₂ keys) ls) ⊛ raw (fact 𝓤 (Ends r₃ (ls .1 .0) (ls .1 .1 .1 .1 .0) (ls .1 .1 .1 .1 .1 .1 .0) (ls .1 .1 .1 .1 .1 .1 .1 .0))))) (id⊢ 𝓤 _) $ pick ! (λ ls.
@@ -267,7 +267,7 @@ module _ {M : Type 1} (𝓤 : URA M) (H : Heap 𝓤) (A : Atoms 𝓤) (W : Given
   digest-middle-walks = walked 𝓤 H A own.ended stayed (own.clauses 𝓤 H A mem run) (WpFn 𝓤 H (𝓣 .C) (𝓣 .Λ) code.function)
       (λ κs. (LL.vals K.the-type K′.the-laws, (slice-vals, (slice-vals, (slice-vals, (slice-vals, (slice-vals, tt)))))))
       (λ κs. (LL.tells K.the-type K′.the-laws, (mut-slice-tells (named 0) (κs .0) E, (mut-slice-tells (named 1) (κs .1 .0) u8, (shr-slice-tells (named 2) (κs .1 .1 .0) u8, (mut-slice-tells (named 3) (κs .1 .1 .1 .0) u8, (mut-slice-tells (named 4) (κs .1 .1 .1 .1 .0) u8, tt)))))))
-      (λ κs qs bounds a g are. needs 𝓤 (atMost (length (a .1 .0 .now)) ≤ 512) _ (λ long.
+      (λ κs qs bounds a g are. needs 𝓤 (roomNeeded (a .0) (length (a .1 .0 .now)) ≤ 512) _ (λ long.
       walk 𝓤 H A W mem run (κs .0) (κs .1 .0) (κs .1 .1 .0) (κs .1 .1 .1 .0) (κs .1 .1 .1 .1 .0) (qs .0) (qs .1 .0) (qs .1 .1 .0) (qs .1 .1 .1 .0) (qs .1 .1 .1 .1 .0) (a .0) (are .0) (a .1 .0) (a .1 .1 .0) (a .1 .1 .1 .0) (a .1 .1 .1 .1 .0) (a .1 .1 .1 .1 .1 .0) long (𝓣 .C) (𝓣 .Λ) (fmOf 𝓤 H (W .laws) 𝓣) known₁ known₂ known₃ (are .1 .0 .0 .1) (are .1 .1 .0 .0 .1) (are .1 .1 .1 .0 .0 .1) (are .1 .1 .1 .1 .0 .0 .1) (are .1 .1 .1 .1 .1 .0 .0 .1)))
 
   digest-middle-meets : Meets 𝓤 H A own.signature (WpFn 𝓤 H (𝓣 .C) (𝓣 .Λ) code.function) (own.spec 𝓤 H A mem run)
