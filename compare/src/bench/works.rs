@@ -190,14 +190,17 @@ fn bench_step(base: &Base, keys: &[Key]) -> bool {
     true
 }
 
-/// A digest of an untouched base, of one with 200 changes, and of a small one, which answers a merge request.
+/// A digest of an untouched base, with and without a cutoff, of one with 200 changes, and of a small one, which answers a merge request.
 fn bench_digests(base: &Base, small: &Base, keys: &[Key]) -> bool {
     let untouched = ("an untouched base", base, None, 0);
+    let under_cutoff = ("an untouched base, a cutoff", base, Some(NEXT_CUTOFF), 0);
     let changes = ("200 changes over 100 records", base, None, CHANGES);
     let merge = ("30 records, a merge request", small, Some(CUTOFF), 0);
     let cases = [
         (untouched, 121),
         (untouched, 4096),
+        (under_cutoff, 121),
+        (under_cutoff, 4096),
         (changes, 512),
         (changes, 4096),
         (merge, 121),

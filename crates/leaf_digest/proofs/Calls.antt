@@ -1,15 +1,16 @@
 -- The call: what an accepted digest may rely on, and what a digest leaves, accepted or refused. Assumes nothing.
 use mathlib.Core.Path.{_≡_, refl, sym, ap, subst, _∙_}
+use mathlib.Core.Logic.{inl}
 use mathlib.Core.Bool.{true}
 use mathlib.Core.List.{List, [], _∷_, _++_}
-use Prim.Native.Nat.{ℕ, _+_, _-_, _*_, _≤_, _<_}
+use Prim.Native.Nat.{ℕ, _*_, _≤_, _<_}
+use native.Mathlib.Omega.{arith}
 use lib.Dec.{leb}
 use lib.ListN.{length, getD, take, drop, take-append-drop}
 use lib.Seq.{getD-take}
 use borrow.Author.Tests.{eq-eqb, ne-eqb, leb-true}
 use Rattle.leaf_node.specs.Limits.{PageSize, pagesAsked}
 use Rattle.leaf_node.specs.Record.{Record, body, total}
-use Rattle.leaf_node.specs.Page.{count}
 use Rattle.leaf_node.specs.Fits.{All, nil, cons, Keyed, Light}
 use Rattle.leaf_model.specs.Work.{zeroKey, keysRise, plan}
 use Rattle.leaf_model.proofs.Tests.{and-left, and-right}
@@ -24,12 +25,13 @@ use Rattle.leaf_work.specs.Verdict.{lentVerdict, hasPages, digestVerdict}
 use Rattle.leaf_work.specs.Digest as outcome
 use Rattle.leaf_work.proofs.Tests.{passed, first-passed}
 use Rattle.leaf_work.proofs.Laid.{pending-parts}
-use Rattle.leaf_work.proofs.FlatList.{rows-and-keys-agree}
+use Rattle.leaf_work.proofs.FlatList.{rows-and-keys-agree, length-entries}
 use Rattle.leaf_work.proofs.Readiness as readiness
 use Rattle.leaf_work.proofs.PendingRecords.{EntryKeyed, pending-keys-have-32-bytes, pending-values-are-light}
 use Rattle.leaf_check.specs.Settled.{Regardable}
 use Rattle.leaf_check.proofs.Verdicts.{the-regarded-is-good}
 use Rattle.leaf_give.specs.Giving.{Gives, planned}
+use Rattle.leaf_merge.specs.Keeping.{RoomToKeep}
 use Rattle.leaf_digest.specs.declared.Digested.{Digested}
 use Rattle.leaf_digest.specs.Reply.{replyOf, cutoffBeside}
 use Rattle.leaf_digest.specs.Steps.{Digests, Leaves}
@@ -41,7 +43,7 @@ entries-keyed [] a = nil
 entries-keyed (r ∷ rs) nil = nil
 entries-keyed (r ∷ rs) (cons k a) = cons k (entries-keyed rs a)
 
--- ---- an accepted work can be digested, over rows and keys that begin with its used entries and have room for all that is pending
+-- ---- an accepted work can be digested, over rows and keys that begin with its used entries and have room for what it keeps
 
 module _ (size : ℕ) (w : Work) (list : List Entry) (store page area tickets : List ℕ) (none : digestVerdict size w (pendingOf w list store (regarded w page)) area tickets (lentVerdict size w list store page) ≡ 0) where
   abbrev given : List Record
@@ -65,8 +67,11 @@ module _ (size : ℕ) (w : Work) (list : List Entry) (store page area tickets : 
     pub an-accepted-work-is-ready : Ready w list store (regarded w page)
     an-accepted-work-is-ready = readiness.accepted-things-are-ready size w list store page lent-earns-nothing q
 
+    pub all-that-is-pending-has-room : length given ≤ length list
+    all-that-is-pending-has-room = omega (arith, the-pending-records-are-counted size w list store page lent-earns-nothing, readiness.list-room size w list store page lent-earns-nothing)
+
     module _ (k : All EntryKeyed (take (w .used) list)) (rows keys : List (List ℕ)) (same : take (w .used) (listOf rows keys) ≡ take (w .used) list)
-        (used-in : w .used ≤ length (listOf rows keys)) (room : w .count + (count (regarded w page) - w .low) ≤ length (listOf rows keys)) (there : 0 < length (listOf rows keys)) (short : length (listOf rows keys) ≤ mostEntries) where
+        (used-in : w .used ≤ length (listOf rows keys)) (room : RoomToKeep (length rows) (length given) (w .used) (length (plan size (cutoffOf w) given .left))) (there : 0 < length (listOf rows keys)) (short : length (listOf rows keys) ≤ mostEntries) where
       abbrev r : Ready w list store (regarded w page)
       r = an-accepted-work-is-ready
 
@@ -87,7 +92,7 @@ module _ (size : ℕ) (w : Work) (list : List Entry) (store page area tickets : 
         entries = entries;
         used-few = r .used-few;
         filled-few = r .filled-few;
-        list-room = room;
+        few = r .few;
         store-room = r .store-room;
         laid = r .laid;
         rising = r .rising;
@@ -118,6 +123,7 @@ module _ (size : ℕ) (w : Work) (list : List Entry) (store page area tickets : 
         gives = gives;
         in-place = rw same (readiness.in-place size w list store page lent-earns-nothing);
         unused = readiness.unused-bytes-are-zero size w list store page lent-earns-nothing;
+        room = subst (λ (rs : List Record). RoomToKeep (length rows) (length rs) (w .used) (length (plan size (cutoffOf w) rs .left))) same-pending room;
       })
 
 -- ---- the call
@@ -163,14 +169,20 @@ module _ (size : ℕ) (w : Work) (rows keys : List (List ℕ)) (store page area 
       ready : Ready w list store (regarded w page)
       ready = an-accepted-work-is-ready size w list store page area tickets none q
 
+      agree : (length rows ≡ length keys) × (listOf rows keys ≡ entriesOf rows keys)
+      agree = rows-and-keys-agree rows keys (ready .list-there)
+
+      room : length pending ≤ length rows
+      room = omega (arith, all-that-is-pending-has-room size w list store page area tickets none q, ap length (agree .1), length-entries rows keys (agree .0))
+
       keyed-entries : All EntryKeyed (take (w .used) list)
       keyed-entries =
-          let a : All EntryKeyed list = rw (rows-and-keys-agree rows keys (ready .list-there) .1) (entries-keyed rows k) in
+          let a : All EntryKeyed list = rw (agree .1) (entries-keyed rows k) in
           all-left (take (w .used) list) (drop (w .used) list) (rw (take-append-drop (w .used) list) a)
 
       pub an-accepted-work-can-be-digested : (p : List ℕ) → p ≡ regarded w page → Digests size w rows keys store p area tickets
       an-accepted-work-can-be-digested =
-          an-accepted-work-can-be-digested-over size w list store page area tickets none q keyed-entries rows keys refl (ready .used-in) (ready .list-room) (ready .list-there) (ready .list-short)
+          an-accepted-work-can-be-digested-over size w list store page area tickets none q keyed-entries rows keys refl (ready .used-in) (inl room) (ready .list-there) (ready .list-short)
 
     taken : o ≡ outcome.digestDone size w list store area tickets (plan size (cutoffOf w) pending)
     unfolding outcome.digestOn

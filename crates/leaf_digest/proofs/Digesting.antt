@@ -65,6 +65,7 @@ module _ (size : ℕ) (w : Work) (rows keys : List (List ℕ)) (store page area 
       there = g .there;
       left-counted = g .count-is ∙ sym (ap length (g .left-is));
       left-summed = g .bytes-is ∙ sym (ap total (g .left-is));
+      room = rw (g .count-is) (d .room);
     }
 
     module _ (rows′ keys′ : List (List ℕ)) (store′ : List ℕ) (k : KeptAs w rows keys store page (p .at) rows′ keys′ store′) where

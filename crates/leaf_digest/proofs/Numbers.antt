@@ -97,7 +97,7 @@ module _ (size : ℕ) (w : Work) (list : List Entry) (store page area tickets : 
     pub listed-gauge-is-modest : PageSize size → Modest (listedGauge w)
     listed-gauge-is-modest s =
         let r = accepted-things-are-ready size w list store page (sym e ∙ z) s in
-        record { few = omega (arith, r .list-room, r .list-short); short = omega (arith, r .store-room, r .store-short) }
+        record { few = omega (arith, r .few); short = omega (arith, r .store-room, r .store-short) }
 
     module _ (p : List ℕ) (q : p ≡ regarded w page) where
       pub what-is-lent-has-a-regarded-page : Regardable size p

@@ -3,7 +3,7 @@ use mathlib.Core.Path.{_≡_}
 use mathlib.Core.Bool.{true, _&&_}
 use mathlib.Core.List.{List, map}
 use Prim.Native.Nat.{ℕ, _+_, _-_, _*_}
-use lib.ListN.{take, drop}
+use lib.ListN.{length, take, drop}
 use Rattle.leaf_node.specs.Page.{count, valuesSize}
 use Rattle.leaf_model.specs.Work.{Waiting, Done, zeroKey}
 use Rattle.leaf_work.specs.declared.Work.{Work}
@@ -15,7 +15,8 @@ use Rattle.leaf_work.specs.Flat.{listOf, rowOf}
 use Rattle.leaf_work.specs.Sound.{placed}
 use Rattle.leaf_work.specs.Digest as outcome
 use Rattle.leaf_cut.specs.declared.Gauge.{Gauge}
-use Rattle.leaf_give.specs.Giving.{Gives}
+use Rattle.leaf_give.specs.Giving.{Gives, pending, planned}
+use Rattle.leaf_merge.specs.Keeping.{RoomToKeep}
 use Rattle.leaf_digest.specs.declared.Digested.{Digested}
 use Rattle.leaf_digest.specs.Reply.{replyOf, cutoffBeside}
 
@@ -54,6 +55,7 @@ pub record Digests (size : ℕ) (w : Work) (rows keys : List (List ℕ)) (store 
   pub gives : Gives size w rows keys store page area tickets
   pub in-place : placed (w .filled) 0 (take (w .used) (listOf rows keys)) ≡ true
   pub unused : every isZero (drop (w .filled) store) ≡ true
+  pub room : RoomToKeep (length rows) (length (pending size w rows keys store page)) (w .used) (length (planned size w rows keys store page .left))
 
 -- what an accepted digest with the outcome o leaves
 pub record Leaves (o : outcome.Digested) (r : Digested) (rows′ keys′ : List (List ℕ)) (store′ area′ tickets′ : List ℕ) : Type 0 where

@@ -82,7 +82,7 @@ module _ (size : ℕ) (w : Work) (rows keys : List (List ℕ)) (store page area 
 
     pub what-is-listed-is-modest : Modest (record { count = w .count; bytes = w .bytes })
     what-is-listed-is-modest = record {
-      few = omega (arith, g .ready .list-room, g .ready .list-short);
+      few = omega (arith, g .ready .few);
       short = omega (arith, g .ready .store-room, g .ready .store-short);
     }
 

@@ -163,7 +163,7 @@ module _ (size : ℕ) (w : Work) (rows keys : List (List ℕ)) (store page : Lis
               few = omega (arith, g .upto, count-short);
               taken-few = g .taken-few;
               rest-few = g .rest-few;
-              count-few = omega (arith, r .list-room, r .list-short);
+              count-few = omega (arith, r .few);
               bytes-few = omega (arith, r .store-room, r .store-short);
               one = added-at-most-one change;
             };

@@ -103,7 +103,7 @@ what-takes-an-ingest-admits-it size w list store page t =
       sized = t .sized;
       regardable = t .regardable;
       base = record { counted = refl; low-in = r .low-in; laid = r .laid; rising = r .rising; short = r .page-short };
-      count-few = omega (arith, r .list-room, r .list-short);
+      count-few = omega (arith, r .few);
       bytes-few = omega (arith, r .store-room, r .store-short);
     }
 

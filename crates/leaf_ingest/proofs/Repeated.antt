@@ -131,7 +131,7 @@ module _ (size : ℕ) (w : Work) (list : List Entry) (store page k : List ℕ) (
           entries = λ i h. one-of-all (drop (w .used + length (newEntries w page k c)) list) listed-in i (omega (arith, listed-length));
           used-few = omega (arith, n, r .used-few, length-append (newChunk w page k) (newInsert w page k c), chunk-few, insert-few c);
           filled-few = omega (arith, r .filled-few);
-          list-room = omega (arith, rows-passed .list-room, m, list-length);
+          few = omega (arith, rows-passed .list-room, m, r .list-short);
           store-room = omega (arith, rows-passed .store-room, range-total page (lowAfter w page k) (count page), store-length);
           laid = r .laid;
           rising = r .rising;

@@ -1,5 +1,6 @@
 -- What a digest keeps can be raised, and raised and settled it is kept as inserts. Assumes nothing.
 use mathlib.Core.Path.{_≡_, refl, sym, ap, _∙_}
+use mathlib.Core.Logic.{inl, inr}
 use mathlib.Core.Bool.{true}
 use mathlib.Core.List.{List, [], _∷_, _++_, map, append-nil}
 use Prim.Native.Nat.{ℕ, zero, suc, _+_, _-_, _≤_, _<_}
@@ -23,7 +24,7 @@ use Rattle.leaf_work.specs.Digest.{insertsOf}
 use Rattle.leaf_work.proofs.Tests.{map-append, every-all}
 use Rattle.leaf_work.proofs.Decoding.{all-zero}
 use Rattle.leaf_work.proofs.Operations.{total-append}
-use Rattle.leaf_work.proofs.FlatList.{length-entries, rows-and-keys-agree}
+use Rattle.leaf_work.proofs.FlatList.{rows-and-keys-agree}
 use Rattle.leaf_cut.specs.declared.Span.{Span}
 use Rattle.leaf_cut.specs.declared.Cursor.{Cursor}
 use Rattle.leaf_cut.specs.declared.Gauge.{Gauge}
@@ -38,6 +39,7 @@ use Rattle.leaf_raise.specs.Raising.{Room, Raised}
 use Rattle.leaf_merge.specs.Lifting.{fullTop, Raises}
 use Rattle.leaf_raise.proofs.Inserts.{rowsOf, keysOf, rows-many, keys-many}
 use Rattle.leaf_raise.proofs.Raising.{rows-as-long, keys-as-long, store-as-long}
+use Rattle.leaf_merge.proofs.Walk.{a-later-entry-has-later-records}
 use Rattle.leaf_merge.proofs.Places.{total-is-a-sum, sum-append, listed-prefix, an-entry-has-no-less-than-one-record, a-listed-value-ends-below-the-sum}
 
 map-replicate : {A B : Type 0} (f : A → B) (m : ℕ) (x : A) → map f (replicate m x) ≡ replicate m (f x)
@@ -72,12 +74,6 @@ module _ (w : Work) (rows keys : List (List ℕ)) (store page : List ℕ) (at : 
   agree : (length rows ≡ length keys) × (listOf rows keys ≡ entriesOf rows keys)
   agree = rows-and-keys-agree rows keys (k .ready .list-there)
 
-  as-long : length (listOf rows keys) ≡ length rows
-  as-long = ap length (agree .1) ∙ length-entries rows keys (agree .0)
-
-  all-few : length pending ≤ length rows
-  all-few = omega (arith, k .counted, k .ready .list-room, as-long)
-
   all-short : total pending ≤ length store
   all-short = omega (arith, k .summed, k .ready .store-room)
 
@@ -97,17 +93,19 @@ module _ (w : Work) (rows keys : List (List ℕ)) (store page : List ℕ) (at : 
   all-is-kept : Kept rows keys store page span
   all-is-kept = what-is-ready-is-kept w rows keys store page (k .ready)
 
-  entries-below : (i : ℕ) → i ≤ w .used → i + length (from (record { entry = i; skip = 0 })) ≤ length rows
-  entries-below i h =
+  kept-few : length (from at) ≤ length rows
+  kept-few = elim (k .room) [ inl h ↦ omega (arith, from-many at, h) | inr h ↦ omega (arith, k .left-counted, h) ]
+
+  entries-below : (i : ℕ) → at .entry < i → i ≤ w .used → i + length (from (record { entry = i; skip = 0 })) ≤ length rows
+  entries-below i l h =
+      let c : Cursor = record { entry = i; skip = 0 } in
       let m : indexOf rows page (record { entry = i; skip = 0 }) ≡ length (listedSizes page i rows) + 0 = unfold indexOf in refl in
-      omega (
-        arith,
-        m,
-        from-many (record { entry = i; skip = 0 }),
-        an-entry-has-no-less-than-one-record rows page span (what-is-ready-is-spread w rows keys store page (k .ready)) i h,
-        all-few,
-        all-is-kept .used-in,
-      )
+      let o = an-entry-has-no-less-than-one-record rows page span (what-is-ready-is-spread w rows keys store page (k .ready)) i h in
+      let r = a-later-entry-has-later-records rows page span at (all-is-kept .used-in) (k .there) i l h in
+      elim (k .room) [
+        | inl q ↦ omega (arith, m, from-many c, o, q, all-is-kept .used-in)
+        | inr q ↦ omega (arith, from-many c, from-many at, r, q, k .left-counted)
+      ]
 
   sums-split : (i : ℕ) → i ≤ w .used → sum (listedSizes page i rows) + total (from (record { entry = i; skip = 0 })) ≡ total pending
   unfolding sizesFrom indexOf pendingSizes
@@ -135,7 +133,7 @@ module _ (w : Work) (rows keys : List (List ℕ)) (store page : List ℕ) (at : 
     kept = all-is-kept;
     there = k .there;
     bytes-is = k .left-summed;
-    few = omega (arith, from-many at, all-few);
+    few = kept-few;
     short = omega (arith, k .left-summed, from-short at, all-short);
     entries-below = entries-below;
     values-below = values-below;

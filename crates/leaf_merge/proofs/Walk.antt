@@ -60,6 +60,17 @@ same-insert : (store store₀ page row key : List ℕ) → take (getD row 3 0 - 
 unfolding held
 same-insert store store₀ page row key v = λ i. record { key = key; value = v i; flag = isSet (getD row 1 0) } ∷ []
 
+-- a cursor's record comes before those of a later entry
+pub a-later-entry-has-later-records : (rows : List (List ℕ)) (page : List ℕ) (s : Span) (at : Cursor) → s .used ≤ length rows → CursorIn rows page s at → (j : ℕ) → at .entry < j → j ≤ s .used
+    → indexOf rows page at ≤ indexOf rows page (record { entry = j; skip = 0 })
+a-later-entry-has-later-records rows page s at u there j l high = unfold indexOf in
+    let n : at .entry + 1 + (j - (at .entry + 1)) ≡ j = omega arith in
+    let o : at .entry + 1 + (j - (at .entry + 1)) ≤ length rows = omega (arith, u) in
+    let r : length (listedSizes page (at .entry + 1) rows) ≤ length (listedSizes page j rows) = rw n at (listed-rises page rows (at .entry + 1) (j - (at .entry + 1)) o) in
+    let m : length (listedSizes page (at .entry + 1) rows) ≡ length (listedSizes page (at .entry) rows) + length (rowSizes page (getD rows (at .entry) [])) =
+    rw (add-one (at .entry)) (one-more-entry page (at .entry) rows (omega (arith, u))) in
+    omega (arith, r, m, there .skip-in (omega arith))
+
 -- ---- what is raised
 
 module _ (rows₀ keys₀ : List (List ℕ)) (store₀ page : List ℕ) (s : Span) (at : Cursor) (bytes : ℕ) where
@@ -130,13 +141,7 @@ module _ (rows₀ keys₀ : List (List ℕ)) (store₀ page : List ℕ) (s : Spa
       index-rises = elim (decLt (at .entry) j) [ yes l ↦ above l | no l ↦ ap-le (same-cursor at j (omega arith)) ]
         where
           above : at .entry < j → indexOf rows₀ page at ≤ indexOf rows₀ page (cursor j)
-          above l = unfold indexOf in
-              let n : at .entry + 1 + (j - (at .entry + 1)) ≡ j = omega arith in
-              let o : at .entry + 1 + (j - (at .entry + 1)) ≤ length rows₀ = omega (arith, g .kept .used-in) in
-              let r : length (listedSizes page (at .entry + 1) rows₀) ≤ length (listedSizes page j rows₀) = rw n at (listed-rises page rows₀ (at .entry + 1) (j - (at .entry + 1)) o) in
-              let m : length (listedSizes page (at .entry + 1) rows₀) ≡ length (listedSizes page (at .entry) rows₀) + length (rowSizes page (getD rows₀ (at .entry) [])) =
-              rw (add-one (at .entry)) (one-more-entry page (at .entry) rows₀ (omega (arith, g .kept .used-in))) in
-              omega (arith, r, m, g .there .skip-in (omega arith))
+          above l = rw (skip-above at j l) (a-later-entry-has-later-records rows₀ page s at (g .kept .used-in) (g .there) j l high)
 
           ap-le : cursor j ≡ at → indexOf rows₀ page at ≤ indexOf rows₀ page (cursor j)
           ap-le e = omega (arith, ap (indexOf rows₀ page) e)
@@ -239,7 +244,7 @@ module _ (rows₀ keys₀ : List (List ℕ)) (store₀ page : List ℕ) (s : Spa
           kept-is = behind-an-entry (e - 1) low-in high-in e next-is l
 
           below : e - 1 + 1 + length (kept e) ≤ length rows₀
-          below = rw kept-is (g .entries-below (e - 1 + 1) (omega arith))
+          below = rw kept-is (g .entries-below (e - 1 + 1) (omega arith) (omega arith))
 
           row-same : getD rows (e - 1) [] ≡ getD rows₀ (e - 1) []
           row-same =

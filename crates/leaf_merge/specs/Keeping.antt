@@ -1,8 +1,9 @@
 -- The records that a digest keeps: they become inserts at the start of list and store. `page` is the page as the work regards it.
 use mathlib.Core.Path.{_≡_}
+use mathlib.Core.Logic.{_⊎_}
 use mathlib.Core.Bool.{true}
 use mathlib.Core.List.{List, _++_, map}
-use Prim.Native.Nat.{ℕ, _+_, _-_}
+use Prim.Native.Nat.{ℕ, _+_, _-_, _≤_}
 use lib.ListN.{length, take, drop, replicate}
 use Rattle.bit_ops.specs.Steps.{zeros}
 use Rattle.leaf_node.specs.Record.{Record, values, total}
@@ -21,6 +22,10 @@ use Rattle.leaf_cut.specs.declared.Gauge.{Gauge}
 use Rattle.leaf_cut.specs.Records.{spanOf, recordsFrom}
 use Rattle.leaf_cut.specs.Steps.{CursorIn}
 
+-- so many rows are room for all that is pending, or for the used entries and beside them what is kept
+abbrev pub RoomToKeep : ℕ → ℕ → ℕ → ℕ → Type 0
+RoomToKeep rows pending used kept = (pending ≤ rows) ⊎ (used + kept ≤ rows)
+
 module _ (w : Work) (rows keys : List (List ℕ)) (store page : List ℕ) (at : Cursor) where
   -- the records from the cursor on
   abbrev pub keptRecords : List Record
@@ -36,6 +41,7 @@ module _ (w : Work) (rows keys : List (List ℕ)) (store page : List ℕ) (at : 
     pub there : CursorIn rows page (spanOf w page) at
     pub left-counted : left .count ≡ length keptRecords
     pub left-summed : left .bytes ≡ total keptRecords
+    pub room : RoomToKeep (length rows) (length (pendingOf w (listOf rows keys) store page)) (w .used) (left .count)
 
   -- "unused entries, entry fields and bytes are zero"
   abbrev pub keptList : ℕ → List Entry

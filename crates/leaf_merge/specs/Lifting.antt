@@ -36,6 +36,6 @@ pub record Raises (rows keys : List (List ℕ)) (store page : List ℕ) (s : Spa
   pub bytes-is : bytes ≡ total (recordsFrom s rows keys store page at)
   pub few : length (recordsFrom s rows keys store page at) ≤ length rows
   pub short : bytes ≤ length store
-  pub entries-below : (i : ℕ) → i ≤ s .used → i + length (recordsFrom s rows keys store page (record { entry = i; skip = 0 })) ≤ length rows
+  pub entries-below : (i : ℕ) → at .entry < i → i ≤ s .used → i + length (recordsFrom s rows keys store page (record { entry = i; skip = 0 })) ≤ length rows
   pub values-below : (i : ℕ) → i < s .used → getD (getD rows i []) 0 0 ≡ 1
       → getD (getD rows i []) 3 0 + total (recordsFrom s rows keys store page (record { entry = i + 1; skip = 0 })) ≤ length store

@@ -146,7 +146,7 @@ pub fn settle_keys(keys: &mut [[u8; 32]], count: usize)
 }
 
 // The larger of two numbers.
-fn larger(a: usize, b: usize) -> usize
+pub fn larger(a: usize, b: usize) -> usize
     ensures { λ r. ⌜ r ≡ max a b ⌝ }
 {
     if a < b { b } else { a }

@@ -5,7 +5,6 @@ use leaf_entries::unused_entries;
 use leaf_passed::begin_unused;
 use leaf_within::DigestStep;
 use leaf_within::digest_within;
-use leaf_within::room_needed;
 use leaf_within::split_count;
 use leaf_work::Entry;
 use leaf_work::Work;
@@ -47,9 +46,38 @@ fn digest_in(
     step
 }
 
-// ---- room for rows and keys. Clearing it costs time, so a digest that needs little gets little.
+// ---- a digest in room for so many rows and keys. Clearing it costs time, so one that needs little gets little.
 
-// Little room: enough for an untouched base.
+// Room where nothing is kept.
+fn bare_rows() -> [[usize; 5]; 64]
+    ensures { λ r. ⌜ length r ≡ 64 ⌝ }
+{
+    [[0usize; 5]; 64]
+}
+
+fn bare_keys() -> [[u8; 32]; 64]
+    ensures { λ r. ⌜ length r ≡ 64 ⌝ }
+{
+    [[0u8; 32]; 64]
+}
+
+pub fn digest_bare(
+    work: Work,
+    list: &mut [Entry],
+    store: &mut [u8],
+    page: &[u8],
+    area: &mut [u8],
+    tickets: &mut [u8],
+) -> DigestStep
+    requires { ⌜ roomNeeded work (length (now list)) ≤ 64 ⌝ }
+    ensures { λ r. ⌜ DigestSteps work (now (list .entry)) (now (store .entry)) (now (page .entry)) (now (area .entry)) (now (tickets .entry)) r (now (list .exit)) (now (store .exit)) (now (area .exit)) (now (tickets .exit)) ⌝ }
+{
+    let mut rows = bare_rows();
+    let mut keys = bare_keys();
+    digest_in(work, list, &mut rows, &mut keys, store, page, area, tickets)
+}
+
+// Room for as many used entries, and for what is kept.
 fn small_rows() -> [[usize; 5]; 128]
     ensures { λ r. ⌜ length r ≡ 128 ⌝ }
 {
@@ -62,7 +90,7 @@ fn small_keys() -> [[u8; 32]; 128]
     [[0u8; 32]; 128]
 }
 
-fn digest_small(
+pub fn digest_small(
     work: Work,
     list: &mut [Entry],
     store: &mut [u8],
@@ -91,7 +119,7 @@ fn middle_keys() -> [[u8; 32]; 512]
     [[0u8; 32]; 512]
 }
 
-fn digest_middle(
+pub fn digest_middle(
     work: Work,
     list: &mut [Entry],
     store: &mut [u8],
@@ -120,7 +148,7 @@ fn large_keys() -> [[u8; 32]; 4096]
     [[0u8; 32]; 4096]
 }
 
-fn digest_large(
+pub fn digest_large(
     work: Work,
     list: &mut [Entry],
     store: &mut [u8],
@@ -134,48 +162,4 @@ fn digest_large(
     let mut rows = large_rows();
     let mut keys = large_keys();
     digest_in(work, list, &mut rows, &mut keys, store, page, area, tickets)
-}
-
-// ---- the call
-
-// A digest that needs more than little room.
-fn digest_long(
-    work: Work,
-    list: &mut [Entry],
-    store: &mut [u8],
-    page: &[u8],
-    area: &mut [u8],
-    tickets: &mut [u8],
-) -> DigestStep
-    ensures { λ r. ⌜ DigestSteps work (now (list .entry)) (now (store .entry)) (now (page .entry)) (now (area .entry)) (now (tickets .entry)) r (now (list .exit)) (now (store .exit)) (now (area .exit)) (now (tickets .exit)) ⌝ }
-{
-    let room = room_needed(work, list.len());
-    if room < 513 {
-        let step = digest_middle(work, list, store, page, area, tickets);
-        step
-    } else {
-        let step = digest_large(work, list, store, page, area, tickets);
-        step
-    }
-}
-
-// A digest of a list of any length.
-pub fn digest_list(
-    work: Work,
-    list: &mut [Entry],
-    store: &mut [u8],
-    page: &[u8],
-    area: &mut [u8],
-    tickets: &mut [u8],
-) -> DigestStep
-    ensures { λ r. ⌜ DigestSteps work (now (list .entry)) (now (store .entry)) (now (page .entry)) (now (area .entry)) (now (tickets .entry)) r (now (list .exit)) (now (store .exit)) (now (area .exit)) (now (tickets .exit)) ⌝ }
-{
-    let room = room_needed(work, list.len());
-    if room < 129 {
-        let step = digest_small(work, list, store, page, area, tickets);
-        step
-    } else {
-        let step = digest_long(work, list, store, page, area, tickets);
-        step
-    }
 }

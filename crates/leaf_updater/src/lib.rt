@@ -12,7 +12,7 @@ use leaf_node::SizeReply;
 use leaf_node::ValueReply;
 use leaf_passed::begin_seek;
 use leaf_pending::TwinPlace;
-use leaf_split::digest_list;
+use leaf_room::digest_list;
 use leaf_step::next_base_step;
 use leaf_step::open_step;
 use leaf_step::part_step;

@@ -1,16 +1,24 @@
 -- How many entries are split and given back, and what a digest answers, case by case. Assumes nothing.
-use mathlib.Core.Path.{_≡_, refl, sym, ap, _∙_}
-use mathlib.Core.Logic.{_⊎_, inl, inr}
+use mathlib.Core.Path.{_≡_, refl, ap, _∙_}
 use mathlib.Core.Bool.{Bool, true, false}
-use mathlib.Core.List.{List}
-use Prim.Native.Nat.{ℕ, _+_, _-_, _≤_, _<_}
+use mathlib.Core.Option.{some}
+use mathlib.Core.List.{List, [], _∷_}
+use Prim.Native.Nat.{ℕ, _+_, _≤_, _<_}
 use native.Mathlib.Omega.{arith}
 use lib.Dec.{ltb, leb}
-use borrow.Author.Tests.{lt-ltb, le-ltb, ltb-true, ltb-false, le-leb, lt-leb, leb-true, leb-false}
-use Rattle.leaf_model.specs.Work.{zeroKey}
+use lib.ListN.{length}
+use borrow.Author.Tests.{eq-eqb, ne-eqb, le-leb, lt-leb, leb-true, leb-false}
+use Rattle.leaf_node.specs.Limits.{mergeBelow}
+use Rattle.leaf_node.specs.Record.{Record, body}
+use Rattle.leaf_node.proofs.Limits.{merge-limit-of-4096}
+use Rattle.leaf_node.proofs.Lengths.{body-is-pointers-and-values}
+use Rattle.leaf_model.specs.Basics.{nonempty}
+use Rattle.leaf_model.specs.Work.{zeroKey, plan}
+use Rattle.leaf_model.proofs.Plan.{kept-records-wait-for-a-merge}
 use Rattle.leaf_work.specs.declared.Work.{Work}
-use Rattle.leaf_work.specs.Tests.{oneOf}
-use Rattle.leaf_work.specs.Lent.{mostEntries}
+use Rattle.leaf_work.specs.Tests.{oneOf, isSet}
+use Rattle.leaf_work.specs.Lent.{mostEntries, cutoffOf}
+use Rattle.leaf_work.proofs.Tests.{key-is-there}
 use Rattle.leaf_passed.specs.Behind.{lesserOf}
 use Rattle.leaf_passed.proofs.Behind.{lesser-bounds}
 use Rattle.leaf_digest.specs.declared.Gave.{Gave}
@@ -18,25 +26,9 @@ use Rattle.leaf_digest.specs.declared.Gave.the-variants as gave
 use Rattle.leaf_digest.specs.Reply.{replyOf}
 use Rattle.leaf_work.specs.Digest.{DigestRefused}
 use Rattle.leaf_within.specs.declared.DigestStep.{DigestStep}
-use Rattle.leaf_within.specs.Within.{most, atMost, splitCount, roomNeeded, stepOf}
+use Rattle.leaf_within.specs.Within.{atMost, splitCount, keptRoom, roomNeeded, stepOf}
 
 module _ (a b : ℕ) where
-  pub the-second-is-greater : a < b → b ≡ most a b
-  unfolding most
-  the-second-is-greater h = rw (lt-ltb a b h)
-
-  pub the-first-is-greater : b ≤ a → a ≡ most a b
-  unfolding most
-  the-first-is-greater h = rw (le-ltb a b h)
-
-  pub greater-bounds : (a ≤ most a b) × (b ≤ most a b)
-  unfolding most
-  greater-bounds = go (ltb a b) refl
-    where
-      go : (t : Bool) → ltb a b ≡ t → (a ≤ oneOf t b a) × (b ≤ oneOf t b a)
-      go true e = let l = ltb-true a b e in (omega (arith, l), omega arith)
-      go false e = let l = ltb-false a b e in (omega arith, l)
-
   within-lesser : (k : ℕ) → k ≤ a → k ≤ b → k ≤ lesserOf a b
   unfolding lesserOf
   within-lesser k h l = go (ltb a b)
@@ -45,13 +37,33 @@ module _ (a b : ℕ) where
       go true = h
       go false = l
 
-  pub the-greater-is-within : (k : ℕ) → a ≤ k → b ≤ k → most a b ≤ k
-  unfolding most
-  the-greater-is-within k h l = go (ltb a b)
+-- ---- what is kept
+
+module _ (w : Work) where
+  pub with-a-cutoff-a-few-are-kept : (w .cut ≡ 0 → ⊥) → (60 ≡ keptRoom w) × (60 ≤ 60)
+  unfolding keptRoom
+  with-a-cutoff-a-few-are-kept h = (rw (ne-eqb (w .cut) 0 h), omega arith)
+
+  pub without-a-cutoff-none-are-kept : w .cut ≡ 0 → (1 ≡ keptRoom w) × (1 ≤ 60)
+  unfolding keptRoom
+  without-a-cutoff-none-are-kept h = (rw (eq-eqb (w .cut) 0 h), omega arith)
+
+  pub kept-room-bounds : (1 ≤ keptRoom w) × (keptRoom w ≤ 60)
+  unfolding keptRoom
+  kept-room-bounds = go (isSet (w .cut))
     where
-      go : (t : Bool) → oneOf t b a ≤ k
-      go true = l
-      go false = h
+      go : (t : Bool) → (1 ≤ oneOf t 60 1) × (oneOf t 60 1 ≤ 60)
+      go true = (omega arith, omega arith)
+      go false = (omega arith, omega arith)
+
+  pub what-is-kept-has-rows : (pending : List Record) → length (plan 4096 (cutoffOf w) pending .left) ≤ keptRoom w
+  what-is-kept-has-rows pending = go (plan 4096 (cutoffOf w) pending .left) (kept-records-wait-for-a-merge 4096 (cutoffOf w) pending)
+    where
+      go : (left : List Record) → (nonempty left ≡ true → (c : List ℕ) × (cutoffOf w ≡ some c) × (body left < mergeBelow 4096)) → length left ≤ keptRoom w
+      go [] h = omega arith
+      go (r ∷ rs) h = unfold keptRoom in
+          let k = h refl in
+          rw (key-is-there (isSet (w .cut)) (w .cutoff) (k .0) (k .1) .0) (omega (arith, k .2, merge-limit-of-4096, body-is-pointers-and-values (r ∷ rs)))
 
 module _ (entries : ℕ) where
   pub a-short-list-is-all-there : entries ≤ 4096 → entries ≡ atMost entries
@@ -72,34 +84,27 @@ module _ (entries : ℕ) where
 
   module _ (w : Work) where
     -- both numbers are bounds of the room, and nothing else is
-    pub room-bounds : (k : ℕ) → k ≤ atMost entries → (k ≤ w .used) ⊎ (k ≤ w .count + 121) → k ≤ roomNeeded w entries
+    pub room-bounds : (k : ℕ) → k ≤ atMost entries → k ≤ w .used + keptRoom w → k ≤ roomNeeded w entries
     unfolding roomNeeded
-    room-bounds k a b =
-        let g = greater-bounds (w .used) (w .count + 121) in
-        let m : k ≤ most (w .used) (w .count + 121) = elim b [ inl h ↦ omega (arith, h, g .0) | inr h ↦ omega (arith, h, g .1) ] in
-        within-lesser (most (w .used) (w .count + 121)) (atMost entries) k m a
+    room-bounds k a b = within-lesser (w .used + keptRoom w) (atMost entries) k b a
 
-    pub room-is-within-the-list : roomNeeded w entries ≤ 4096
+    pub room-is-either : (roomNeeded w entries ≤ atMost entries) × (roomNeeded w entries < atMost entries → roomNeeded w entries ≡ w .used + keptRoom w)
     unfolding roomNeeded
-    room-is-within-the-list = omega (arith, lesser-bounds (most (w .used) (w .count + 121)) (atMost entries) .0, no-more-than-there-is .1)
+    room-is-either = let b = lesser-bounds (w .used + keptRoom w) (atMost entries) in (b .0, b .2)
 
     pub the-used-ones-are-split : (m r : ℕ) → m ≡ atMost entries → (r ≡ lesserOf (w .used) m) × (r ≤ m) → (r ≡ splitCount w entries) × (r ≤ entries) × (r ≤ roomNeeded w entries)
     the-used-ones-are-split m r e f =
         let few : r ≤ w .used = omega (arith, f .0, lesser-bounds (w .used) m .1) in
-        (f .0 ∙ ap (lesserOf (w .used)) e, omega (arith, f .1, e, no-more-than-there-is .0), room-bounds r (omega (arith, f .1, e)) (inl few))
+        (f .0 ∙ ap (lesserOf (w .used)) e, omega (arith, f .1, e, no-more-than-there-is .0), room-bounds r (omega (arith, f .1, e)) (omega (arith, few)))
 
-    room-below : roomNeeded w entries ≤ atMost entries
+    pub many-used-entries-need-all : 4096 < w .used → (m : ℕ) → (m ≡ atMost entries) × (m ≤ 4096) → (m ≡ roomNeeded w entries) × (m ≤ 4096)
+    many-used-entries-need-all h m e =
+        let down : m ≤ roomNeeded w entries = room-bounds m (omega (arith, e .0)) (omega (arith, e .1, h)) in
+        (omega (arith, e .0, room-is-either .0, down), e .1)
+
+    pub so-much-is-needed : (m k r : ℕ) → (m ≡ atMost entries) × (m ≤ 4096) → k ≡ keptRoom w → (r ≡ lesserOf (w .used + k) m) × (r ≤ m) → (r ≡ roomNeeded w entries) × (r ≤ 4096)
     unfolding roomNeeded
-    room-below = lesser-bounds (most (w .used) (w .count + 121)) (atMost entries) .0
-
-    pub a-long-tally-needs-all : 4096 < w .count → (m : ℕ) → (m ≡ atMost entries) × (m ≤ 4096) → (m ≡ roomNeeded w entries) × (m ≤ 4096)
-    a-long-tally-needs-all h m e =
-        let down : m ≤ roomNeeded w entries = room-bounds m (omega (arith, e .0)) (inr (omega (arith, e .1, h))) in
-        (omega (arith, e .0, room-below, down), e .1)
-
-    pub so-much-is-needed : (m g r : ℕ) → (m ≡ atMost entries) × (m ≤ 4096) → g ≡ most (w .used) (w .count + 121) → (r ≡ lesserOf g m) × (r ≤ m) → (r ≡ roomNeeded w entries) × (r ≤ 4096)
-    unfolding roomNeeded
-    so-much-is-needed m g r e f h = (h .0 ∙ rw (f, e .0), omega (arith, h .1, e .1))
+    so-much-is-needed m k r e f h = (h .0 ∙ rw (f, e .0), omega (arith, h .1, e .1))
 
 module _ (reply : Gave) (cutoff : List ℕ) (w : Work) (entries : ℕ) where
   pub a-refusal-gives-back-nothing : (n : ℕ) → reply ≡ gave.Refused n → (r : DigestStep) → r ≡ stepOf (DigestRefused n) w 0 → r ≡ stepOf (replyOf reply cutoff) w entries

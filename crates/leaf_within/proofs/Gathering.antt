@@ -1,13 +1,12 @@
 -- What a digest over the rows and keys of the used entries leaves is what the digest of the list leaves. Assumes nothing.
 use mathlib.Core.Path.{_≡_, refl, sym, ap, subst, _∙_}
 use mathlib.Core.List.{List, [], _∷_, _++_, map, append-assoc}
-use Prim.Native.Nat.{ℕ, zero, suc, _+_, _-_, _≤_, _<_}
+use Prim.Native.Nat.{ℕ, zero, suc, _+_, _-_, _≤_, _<_, max}
 use native.Mathlib.Omega.{arith}
 use lib.ListN.{length, take, drop, replicate, length-map, length-append, length-drop, length-replicate}
 use lib.Seq.{take-append-add, take-append-le, length-take-le, drop-drop}
 use borrow.Author.Tests.{eq-eqb, ne-eqb}
 use Rattle.leaf_node.specs.Record.{Record}
-use Rattle.leaf_node.specs.Page.{count}
 use Rattle.leaf_node.specs.Fits.{All}
 use Rattle.leaf_model.specs.Cut.{Cut}
 use Rattle.leaf_model.specs.Work.{plan}
@@ -28,10 +27,9 @@ use Rattle.leaf_digest.specs.Steps.{Leaves}
 use Rattle.leaf_digest.proofs.Calls.{lent-earns-nothing}
 use Rattle.leaf_within.specs.declared.DigestStep.{DigestStep}
 use Rattle.leaf_within.specs.Reply.{gaveOut}
-use Rattle.leaf_within.specs.Within.{most, roomNeeded, rowsNeeded, SplitFrom, SplitOver, Accepted, givenBack, stepOf, Gathers}
-use Rattle.leaf_within.proofs.Counts.{greater-bounds, the-greater-is-within}
+use Rattle.leaf_within.specs.Within.{roomNeeded, SplitFrom, SplitOver, Accepted, givenBack, stepOf, Gathers}
 use Rattle.leaf_within.proofs.Splits.{keysOf, a-digests-list-is-gathered-again}
-use Rattle.leaf_within.proofs.Shorter.{a-row-for-each-record-is-there, the-rows-have-room, the-used-entries-have-rows, so-many-entries, its-pending-records-are-the-same}
+use Rattle.leaf_within.proofs.Shorter.{a-list-has-the-room, the-used-entries-have-rows, so-many-entries, its-pending-records-are-the-same}
 
 -- ---- lists of one thing
 
@@ -124,10 +122,10 @@ module _ (list : List Entry) (used : ℕ) (b : drop used list ≡ replicate (len
 
 module _ (w : Work) (rows keys : List (List ℕ)) (store page area tickets : List ℕ) (list : List Entry) (u : Unused) (s : SplitFrom w list rows keys u)
     (none : digestVerdict 4096 w (pendingOf w list store (regarded w page)) area tickets (lentVerdict 4096 w list store page) ≡ 0)
-    (p : List ℕ) (q : p ≡ regarded w page) (n : ℕ) (f : n ≡ count p) (m : ℕ) (e : m ≡ rowsNeeded w n) (r : m ≤ length rows) (k : m ≤ length keys) (a : All (λ (x : List ℕ). length x ≡ 32) keys)
+    (p : List ℕ) (q : p ≡ regarded w page) (m : ℕ) (needed : m ≡ roomNeeded w (length list)) (r : m ≤ length rows) (k : m ≤ length keys) (a : All (λ (x : List ℕ). length x ≡ 32) keys)
     (after : core.Digested) (rows′ keys′ : List (List ℕ)) (store′ area′ tickets′ : List ℕ)
     (made : Leaves (digestDone 4096 w (listOf (take m rows) (take m keys)) store area tickets (planned 4096 w (take m rows) (take m keys) store p)) after rows′ keys′ store′ area′ tickets′)
-    (lr : length rows′ ≡ length (take m rows)) (g : ℕ) (most-are : g ≡ most (w .used) (after .work .used)) (step : DigestStep) (is : step ≡ stepOf (replyOf (after .reply) (after .cutoff)) (after .work) g) where
+    (lr : length rows′ ≡ length (take m rows)) (g : ℕ) (most-are : g ≡ max (w .used) (after .work .used)) (step : DigestStep) (is : step ≡ stepOf (replyOf (after .reply) (after .cutoff)) (after .work) g) where
   abbrev o : Digested
   o = digestOf 4096 w list store page area tickets
 
@@ -137,9 +135,6 @@ module _ (w : Work) (rows keys : List (List ℕ)) (store page area tickets : Lis
   done : digestDone 4096 w list store area tickets cut ≡ o
   unfolding digestOn
   done = rw (digestOn, eq-eqb (digestVerdict 4096 w (pendingOf w list store (regarded w page)) area tickets (lentVerdict 4096 w list store page)) 0 none)
-
-  needed : m ≡ rowsNeeded w (count (regarded w page))
-  needed = e ∙ ap (rowsNeeded w) (f ∙ ap count q)
 
   same-cut : planned 4096 w (take m rows) (take m keys) store p ≡ cut
   same-cut =
@@ -168,22 +163,22 @@ module _ (w : Work) (rows keys : List (List ℕ)) (store page area tickets : Lis
       let parts = length-append (insertsOf 0 left) (replicate (m - length left) blank) in
       omega (arith, ap length rows-are, made-rows, parts, inserts-length 0 left, length-replicate (m - length left) blank, lr, length-take-le m rows r)
 
-  given : g ≡ most (w .used) (length left)
-  given = most-are ∙ ap (λ (x : Work). most (w .used) (x .used)) (leaves .work-is)
+  given : g ≡ max (w .used) (length left)
+  given = most-are ∙ ap (λ (x : Work). max (w .used) (x .used)) (leaves .work-is)
 
   used-few : w .used ≤ m
   used-few = omega (arith, needed, the-used-entries-have-rows w rows keys store page area tickets list u s none)
 
   given-few : g ≤ m
-  given-few = omega (arith, given, the-greater-is-within (w .used) (length left) m used-few kept-few)
+  given-few = omega (arith, given, used-few, kept-few)
 
   list-long : m ≤ length list
-  list-long = omega (arith, needed, a-row-for-each-record-is-there w rows keys store page area tickets list u s none)
+  list-long = omega (arith, needed, a-list-has-the-room w rows keys store page area tickets list u s none)
 
   gathered-list : laid (gathered (take g (rows′ ++ drop m rows)) (take g (keys′ ++ drop m keys))) list ≡ o .list
   gathered-list =
       the-list-is-gathered list (w .used) (readiness.blanks 4096 w list store page (lent-earns-nothing 4096 w list store page area tickets none)) left g
-      (omega (arith, given, greater-bounds (w .used) (length left) .0)) (omega (arith, given, greater-bounds (w .used) (length left) .1)) (omega (arith, given-few, list-long)) m given-few rows′ keys′ (drop m rows) (drop m keys) rows-are keys-are
+      (omega (arith, given)) (omega (arith, given)) (omega (arith, given-few, list-long)) m given-few rows′ keys′ (drop m rows) (drop m keys) rows-are keys-are
       ∙ ap (λ (x : Digested). x .list) done
 
   replied : replyOf (after .reply) (after .cutoff) ≡ o .reply
@@ -201,22 +196,23 @@ module _ (w : Work) (rows keys : List (List ℕ)) (store page area tickets : Lis
     area-is = leaves .area-is ∙ ap (λ (x : Digested). x .area) done;
     tickets-are = leaves .tickets-are ∙ ap (λ (x : Digested). x .tickets) done;
     few = omega (arith, counted, given-few, list-long);
-    fewer = omega (arith, counted, given-few, needed, the-rows-have-room w rows keys store page area tickets list u s none);
+    fewer = omega (arith, counted, given-few, needed);
   }
 
 module _ (w : Work) (entries : ℕ) (rows keys : List (List ℕ)) (u : Unused) (store page area tickets : List ℕ)
     (pre : (SplitOver w entries rows keys u) × (roomNeeded w entries ≤ length rows) × (roomNeeded w entries ≤ length keys)) (v : ℕ)
     (e : (list : List Entry) → length list ≡ entries → SplitFrom w list rows keys u → v ≡ digestVerdict 4096 w (pendingOf w list store (regarded w page)) area tickets (lentVerdict 4096 w list store page)) where
-  pub what-earns-nothing-is-accepted : v ≡ 0 → Accepted w rows keys store page area tickets
+  pub what-earns-nothing-is-accepted : v ≡ 0 → Accepted w entries rows keys store page area tickets
   what-earns-nothing-is-accepted z =
       let so = pre .0 in
       record {
         list = so .list;
+        long = so .long;
         unused = u;
         from = so .from;
         none = sym (e (so .list) (so .long) (so .from)) ∙ z;
-        rows-long = subst (λ (n : ℕ). roomNeeded w n ≤ length rows) (sym (so .long)) (pre .1);
-        keys-long = subst (λ (n : ℕ). roomNeeded w n ≤ length keys) (sym (so .long)) (pre .2);
+        rows-long = pre .1;
+        keys-long = pre .2;
       }
 
 -- ---- refused

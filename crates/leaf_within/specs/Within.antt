@@ -2,12 +2,12 @@
 use mathlib.Core.Path.{_≡_}
 use mathlib.Core.Bool.{true, false}
 use mathlib.Core.List.{List, map}
-use Prim.Native.Nat.{ℕ, _+_, _-_, _≤_}
-use lib.Dec.{leb, ltb}
+use Prim.Native.Nat.{ℕ, _+_, _≤_}
+use lib.Dec.{leb}
 use lib.ListN.{length, take}
 use Rattle.leaf_work.specs.declared.Work.{Work}
 use Rattle.leaf_work.specs.declared.Entry.{Entry}
-use Rattle.leaf_work.specs.Tests.{oneOf}
+use Rattle.leaf_work.specs.Tests.{oneOf, isSet}
 use Rattle.leaf_work.specs.Lent.{mostEntries, regarded}
 use Rattle.leaf_work.specs.Flat.{rowOf}
 use Rattle.leaf_work.specs.Pending.{pendingOf}
@@ -21,9 +21,6 @@ use Rattle.leaf_within.specs.Reply.{gaveOut}
 
 -- ---- counts
 
-unfoldable pub most : ℕ → ℕ → ℕ
-most a b = oneOf (ltb a b) b a
-
 -- a list's entries, and no more than a work takes
 unfoldable pub atMost : ℕ → ℕ
 atMost entries = oneOf (leb entries mostEntries) entries mostEntries
@@ -32,13 +29,13 @@ atMost entries = oneOf (leb entries mostEntries) entries mostEntries
 abbrev pub splitCount : Work → ℕ → ℕ
 splitCount w entries = lesserOf (w .used) (atMost entries)
 
--- a row for each entry that is said to be used and each record that may be pending: a base has no more than 120
-unfoldable pub roomNeeded : Work → ℕ → ℕ
-roomNeeded w entries = lesserOf (most (w .used) (w .count + 121)) (atMost entries)
+-- how many rows are enough for what a digest keeps: without a cutoff that is nothing, else the records' body is under 2,047
+unfoldable pub keptRoom : Work → ℕ
+keptRoom w = oneOf (isSet (w .cut)) 60 1
 
--- a row for each pending record
-abbrev pub rowsNeeded : Work → ℕ → ℕ
-rowsNeeded w n = most 1 (w .count + (n - w .low))
+-- rows for the entries that are said to be used and beside them what is kept, and no more than the list has entries
+unfoldable pub roomNeeded : Work → ℕ → ℕ
+roomNeeded w entries = lesserOf (w .used + keptRoom w) (atMost entries)
 
 -- ---- before a digest
 
@@ -57,13 +54,14 @@ pub record SplitOver (w : Work) (entries : ℕ) (rows keys : List (List ℕ)) (u
   pub from : SplitFrom w list rows keys unused
 
 -- and its digest earns no refusal
-pub record Accepted (w : Work) (rows keys : List (List ℕ)) (store page area tickets : List ℕ) : Type 0 where
+pub record Accepted (w : Work) (entries : ℕ) (rows keys : List (List ℕ)) (store page area tickets : List ℕ) : Type 0 where
   pub list : List Entry
+  pub long : length list ≡ entries
   pub unused : Unused
   pub from : SplitFrom w list rows keys unused
   pub none : digestVerdict 4096 w (pendingOf w list store (regarded w page)) area tickets (lentVerdict 4096 w list store page) ≡ 0
-  pub rows-long : roomNeeded w (length list) ≤ length rows
-  pub keys-long : roomNeeded w (length list) ≤ length keys
+  pub rows-long : roomNeeded w entries ≤ length rows
+  pub keys-long : roomNeeded w entries ≤ length keys
 
 -- ---- after it
 

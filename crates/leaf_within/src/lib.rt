@@ -6,6 +6,7 @@ use leaf_digest::Gave;
 use leaf_digest::digest_ready;
 use leaf_digest::read_keys;
 use leaf_digest::turn_verdict;
+use leaf_move::larger;
 use leaf_node::PAGE_SIZE;
 use leaf_pass::pass_list;
 use leaf_passed::Passing;
@@ -30,7 +31,7 @@ ghost use Rattle.leaf_passed.specs.declared.Unused as declared-unused;
 ghost use Rattle.leaf_passed.specs.Passed.{PassingOn, passedOver};
 ghost use Rattle.leaf_digest.specs.Reply as gave;
 ghost use Rattle.leaf_within.specs.Reply.{gaveOut};
-ghost use Rattle.leaf_within.specs.Within.{most, atMost, splitCount, roomNeeded, rowsNeeded, SplitFrom, SplitOver, Accepted, stepOf, Gathers};
+ghost use Rattle.leaf_within.specs.Within.{atMost, splitCount, keptRoom, roomNeeded, SplitFrom, SplitOver, Accepted, stepOf, Gathers};
 
 // A digest's answer: 0 or the refusal, whether it waits for a merge, 1 or 0, how many leaves it gave, and the cutoff for which it waits,
 // else zeros.
@@ -51,15 +52,6 @@ pub struct DigestStep {
 
 // ---- counts
 
-fn greater(a: usize, b: usize) -> usize
-    ensures { λ r. ⌜ r ≡ most a b ⌝ }
-{
-    if a < b {
-        return b;
-    }
-    a
-}
-
 // How many entries a list has, and no more than a work takes.
 fn at_most(entries: usize) -> usize
     ensures { λ r. ⌜ (r ≡ atMost entries) × (r ≤ 4096) ⌝ }
@@ -70,16 +62,27 @@ fn at_most(entries: usize) -> usize
     MOST_ENTRIES
 }
 
-// How many rows a digest may need: one for each entry that is said to be used and each record that may be pending, and no more than the list has
+// How many rows are enough for what a digest keeps. The pointers alone of 61 records have a body of 2,074, which is a leaf; without a cutoff
+// nothing is kept, and one row is there because no list is empty.
+pub fn kept_room(work: Work) -> usize
+    ensures { λ r. ⌜ (r ≡ keptRoom work) × (r ≤ 60) ⌝ }
+{
+    if work.cut != 0 {
+        return 60;
+    }
+    1
+}
+
+// How many rows a digest may need: one for each entry that is said to be used and each record that may be kept, and no more than the list has
 // entries. It is asked before anything is checked.
 pub fn room_needed(work: Work, entries: usize) -> usize
     ensures { λ r. ⌜ (r ≡ roomNeeded work entries) × (r ≤ 4096) ⌝ }
 {
     let all = at_most(entries);
-    if MOST_ENTRIES < work.count {
+    if MOST_ENTRIES < work.used {
         return all;
     }
-    lesser(greater(work.used, work.count + 121), all)
+    lesser(work.used + kept_room(work), all)
 }
 
 // How many entries of a list are split into rows and keys: the used ones, and no more than a work takes.
@@ -87,14 +90,6 @@ pub fn split_count(work: Work, entries: usize) -> usize
     ensures { λ r. ⌜ (r ≡ splitCount work entries) × (r ≤ entries) × (r ≤ roomNeeded work entries) ⌝ }
 {
     lesser(work.used, at_most(entries))
-}
-
-// How many rows a digest needs: one for each pending record, so that those which it keeps have room; the base has n records.
-fn rows_needed(work: Work, n: usize) -> usize
-    requires { ⌜ (work .low ≤ n) × (work .count ≤ 4096) × (n ≤ 32767) ⌝ }
-    ensures { λ r. ⌜ r ≡ rowsNeeded work n ⌝ }
-{
-    greater(1, work.count + (n - work.low))
 }
 
 // ---- the number
@@ -194,18 +189,19 @@ fn digest_split(
     work: Work,
     rows: &mut [[usize; 5]],
     keys: &mut [[u8; 32]],
+    entries: usize,
     store: &mut [u8],
     page: &[u8],
     area: &mut [u8],
     tickets: &mut [u8],
 ) -> DigestStep
-    requires { ⌜ Accepted work (now rows) (now keys) (now store) (now page) (now area) (now tickets) ⌝ }
-    ensures { λ r. ⌜ ((list : List declared.Entry) → (unused : declared-unused.Unused) → SplitFrom work list (now (rows .entry)) (now (keys .entry)) unused → digestVerdict 4096 work (pendingOf work list (now (store .entry)) (regarded work (now (page .entry)))) (now (area .entry)) (now (tickets .entry)) (lentVerdict 4096 work list (now (store .entry)) (now (page .entry))) ≡ 0 → Gathers work (digestOf 4096 work list (now (store .entry)) (now (page .entry)) (now (area .entry)) (now (tickets .entry))) list r (now (rows .exit)) (now (keys .exit)) (now (store .exit)) (now (area .exit)) (now (tickets .exit))) ⌝ }
+    requires { ⌜ Accepted work entries (now rows) (now keys) (now store) (now page) (now area) (now tickets) ⌝ }
+    ensures { λ r. ⌜ ((list : List declared.Entry) → (unused : declared-unused.Unused) → length list ≡ entries → SplitFrom work list (now (rows .entry)) (now (keys .entry)) unused → digestVerdict 4096 work (pendingOf work list (now (store .entry)) (regarded work (now (page .entry)))) (now (area .entry)) (now (tickets .entry)) (lentVerdict 4096 work list (now (store .entry)) (now (page .entry))) ≡ 0 → Gathers work (digestOf 4096 work list (now (store .entry)) (now (page .entry)) (now (area .entry)) (now (tickets .entry))) list r (now (rows .exit)) (now (keys .exit)) (now (store .exit)) (now (area .exit)) (now (tickets .exit))) ⌝ }
 {
     let base = regard(work, page);
     let n = records_in(base, PAGE_SIZE);
     read_keys(keys);
-    let room = rows_needed(work, n);
+    let room = room_needed(work, entries);
     let after = digest_ready(
         work,
         &mut rows[..room],
@@ -220,7 +216,7 @@ fn digest_split(
     let reply = after.reply;
     let cutoff = after.cutoff;
     let next = after.work;
-    step_of(reply, cutoff, next, greater(work.used, next.used))
+    step_of(reply, cutoff, next, larger(work.used, next.used))
 }
 
 // A digest of a work whose list has so many entries.
@@ -252,5 +248,5 @@ pub fn digest_within(
     if number != 0 {
         return refused_digest(work, number);
     }
-    digest_split(work, rows, keys, store, page, area, tickets)
+    digest_split(work, rows, keys, entries, store, page, area, tickets)
 }

@@ -154,7 +154,7 @@ module _ (size : ℕ) (w : Work) (list : List Entry) (store page : List ℕ) (z 
   unfolding valuesSize
   rest-total = refl
 
-  list-room : w .count + (count p - w .low) ≤ length list
+  pub list-room : w .count + (count p - w .low) ≤ length list
   list-room =
       let e = ap length (pending-is w list store p ops laid) in
       let h : length (pendingOf w list store p) ≤ length list = leb-true _ _ (and-left (leb (length (pendingOf w list store p)) (length list)) _ (c .room-right)) in
@@ -199,7 +199,7 @@ module _ (size : ℕ) (w : Work) (list : List Entry) (store page : List ℕ) (z 
     entries = λ i h. taken-at (w .used) list i (entries-in (w .filled) 0 shapes in-place) h used-in;
     used-few = omega (arith, laid .used-is, laid .count-is, ops-few p (laid .chunks));
     filled-few = omega (arith, laid .filled-is, laid .bytes-is, bytes-few p ops);
-    list-room = list-room;
+    few = omega (arith, list-room, lengths-right .1);
     store-room = store-room;
     laid = λ h. good-pages-are-laid size p q (base-good h);
     rising = λ h. good-pages-rise size p q (base-good h);

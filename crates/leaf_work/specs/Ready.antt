@@ -24,7 +24,7 @@ pub record Ready (w : Work) (list : List Entry) (store page : List ℕ) : Type 0
   pub used-few : w .used ≤ w .count
   pub filled-few : w .filled ≤ w .bytes
   -- what is pending has room
-  pub list-room : w .count + (count page - w .low) ≤ length list
+  pub few : w .count + (count page - w .low) ≤ mostEntries
   pub store-room : w .bytes + valuesSize page (w .low) (count page) ≤ length store
   -- a page with records is a good one
   pub laid : 0 < count page → Laid page (count page)

@@ -52,10 +52,10 @@ use Rattle.leaf_within.proofs.DigestStep as Q
 use Rattle.leaf_within.proofs.DigestStep.Laws as Q′
 use Rattle.leaf_within.proofs.LeafGave as L
 use Rattle.leaf_within.proofs.LeafGave.Laws as L′
-use Rattle.leaf_split.proofs.digest_list as lists
-use Rattle.leaf_split.proofs.digest_list.Symbol as lists-def
-use Rattle.leaf_split.proofs.digest_list.Symbol.{name as #leaf-split·digest-list}
-use Rattle.leaf_split.proofs.digest_list.Met as lists-thm
+use Rattle.leaf_room.proofs.digest_list as lists
+use Rattle.leaf_room.proofs.digest_list.Symbol as lists-def
+use Rattle.leaf_room.proofs.digest_list.Symbol.{name as #leaf-room·digest-list}
+use Rattle.leaf_room.proofs.digest_list.Met as lists-thm
 use Rattle.leaf_updater.proofs.leaf_digest.Key.{name as #leaf-updater·leaf-digest}
 use Rattle.leaf_updater.proofs.leaf_digest as digest
 use Rattle.leaf_updater.proofs.leaf_digest.Statement as stated
@@ -154,7 +154,7 @@ module _ {M : Type 1} (𝓤 : URA M) (H : Heap 𝓤) (A : Atoms 𝓤) (W : Given
       nothing ! $ move ! (7 ∷ 0 ∷ []) $ fjoin ! $ move ! (6 ∷ 0 ∷ []) $ fjoin ! $ move ! (5 ∷ 0 ∷ []) $ fjoin ! $ move ! (4 ∷ 0 ∷ []) $ fjoin ! $ move ! (3 ∷ 0 ∷ []) $ fjoin ! $ move ! (1 ∷ 2 ∷ 0 ∷ []) $
       feqI ! (List Val) (vptr b₀ o₀ ∷ []) (vptr b₀ o₀ ∷ []) refl $ fjoin3 ! $ fjoin ! $ owned ! L.the-row (Is L.the-row) (LL.makes L.the-type L′.the-plain 𝓤 H A) (r .reply) _ is $ move ! (1 ∷ 0 ∷ []) $ done !
 
-  module _ (C : Calls 𝓤 H) (Λ : Loops 𝓤 H) (fm : FmC 𝓤 H (W .laws) C) (known : Triple 𝓤 (C #leaf-split·digest-list) (Lists 𝓤 H A at-mem run)) where
+  module _ (C : Calls 𝓤 H) (Λ : Loops 𝓤 H) (fm : FmC 𝓤 H (W .laws) C) (known : Triple 𝓤 (C #leaf-room·digest-list) (Lists 𝓤 H A at-mem run)) where
     walk : Room E n → Room u8 (length (s .now)) → Room u8 (length (p .now)) → Room u8 (length (area .now)) → Room u8 (length (tickets .now)) → ent 𝓤 (onEntry 𝓤 H A digest.signature (κ₀, (κ₁, (κ₂, (κ₃, (κ₄, (κ₅, tt)))))) (q₀, (q₁, (q₂, (q₃, (q₄, (q₅, tt)))))) a vals) (WpFn 𝓤 H C Λ code.function (vptr b₀ o₀ ∷ sl x ∷ sl s ∷ sl p ∷ sl area ∷ sl tickets ∷ []) Post)
     walk rl rs rp ra rt =
         qed W ((‵ (flft κ₀ q₀) ⊛ toks) ∷ ‵ (owns (MutRef (named 0) κ₀ K.the-row ∷ MutSlice (named 1) κ₁ E ∷ MutSlice (named 2) κ₂ u8 ∷ ShrSlice (named 3) κ₃ u8 ∷ MutSlice (named 4) κ₄ u8 ∷ MutSlice (named 5) κ₅ u8 ∷ []) a vals) ∷ []) ∵ enter ! C Λ code.function (vptr b₀ o₀ ∷ sl x ∷ sl s ∷ sl p ∷ sl area ∷ sl tickets ∷ []) _ $
@@ -192,7 +192,7 @@ module _ {M : Type 1} (𝓤 : URA M) (H : Heap 𝓤) (A : Atoms 𝓤) (W : Given
         move ! (41 ∷ 42 ∷ []) $ free1 ! $ move ! (39 ∷ 40 ∷ []) $ free1 ! $ move ! (37 ∷ 38 ∷ []) $ free1 ! $ move ! (35 ∷ 36 ∷ []) $ free1 ! $ move ! (33 ∷ 34 ∷ []) $ free1 ! $ move ! (31 ∷ 32 ∷ []) $ free1 ! $ move ! (29 ∷ 30 ∷ []) $ free1 ! $ move ! (27 ∷ 28 ∷ []) $ free1 ! $ move ! (25 ∷ 26 ∷ []) $ free1 ! $ move ! (23 ∷ 24 ∷ []) $ free1 ! $ move ! (21 ∷ 22 ∷ []) $ free1 ! $ move ! (19 ∷ 20 ∷ []) $ free1 ! $ move ! (17 ∷ 18 ∷ []) $ free1 ! $ move ! (15 ∷ 16 ∷ []) $ free1 ! $ move ! (13 ∷ 14 ∷ []) $ free1 ! $ move ! (11 ∷ 12 ∷ []) $ free1 ! $ move ! (9 ∷ 10 ∷ []) $ free1 ! $ free0 ! $
         keep ! (0 ∷ 1 ∷ 2 ∷ 3 ∷ 7 ∷ 6 ∷ 8 ∷ 5 ∷ 4 ∷ []) $ by ! (exits r₁ (ls .1 .0) (ls .1 .1 .0) (ls .1 .1 .1 .1 .0) (ls .1 .1 .1 .1 .1 .0) f₁ n₁ n₂ n₄ n₅ (parts .0))))))))))))))))))))))))))))))
 
-module _ {M : Type 1} (𝓤 : URA M) (H : Heap 𝓤) (A : Atoms 𝓤) (W : Given 𝓤 H A) (mem : Memory → SProp 𝓤) (run : Routine → Fun 𝓤) (𝓣 : Tables 𝓤 H) (known : Triple 𝓤 (𝓣 .C #leaf-split·digest-list) (Lists 𝓤 H A mem run)) where
+module _ {M : Type 1} (𝓤 : URA M) (H : Heap 𝓤) (A : Atoms 𝓤) (W : Given 𝓤 H A) (mem : Memory → SProp 𝓤) (run : Routine → Fun 𝓤) (𝓣 : Tables 𝓤 H) (known : Triple 𝓤 (𝓣 .C #leaf-room·digest-list) (Lists 𝓤 H A mem run)) where
   leaf-digest-walks : Walks 𝓤 H A digest.ended stayed (WpFn 𝓤 H (𝓣 .C) (𝓣 .Λ) code.function) (digest.clauses 𝓤 H A mem run)
   leaf-digest-walks = walked 𝓤 H A digest.ended stayed (digest.clauses 𝓤 H A mem run) (WpFn 𝓤 H (𝓣 .C) (𝓣 .Λ) code.function)
       (λ κs. (ptr-vals, (slice-vals, (slice-vals, (slice-vals, (slice-vals, (slice-vals, tt)))))))
@@ -213,4 +213,4 @@ leaf-digest-spec 𝓤 H 𝓜 𝓖 𝓡 =
     entered 𝓤 H (tripleOf 𝓤 H (𝓖 .A) digest.signature (digest.spec 𝓤 H (𝓖 .A) (𝓜 .mem) (𝓡 .run)))
     (tables 𝓤 H 𝓜 𝓡 code.env .C) (tables 𝓤 H 𝓜 𝓡 code.env .Λ) #leaf-updater·leaf-digest code.function (code.unfolded 𝓤 H 𝓜 𝓡)
     (leaf-digest-meets 𝓤 H (𝓖 .A) (givenOf 𝓤 H 𝓜 𝓖) (𝓜 .mem) (𝓡 .run) (tablesOf 𝓤 H 𝓜 (tables 𝓤 H 𝓜 𝓡 code.env))
-    (cited 𝓤 H (Lists 𝓤 H (𝓖 .A) (𝓜 .mem) (𝓡 .run)) 𝓜 𝓡 code.env #leaf-split·digest-list lists-def.routine code.calls-leaf-split·digest-list (lists-thm.met 𝓤 H 𝓜 𝓖 𝓡)))
+    (cited 𝓤 H (Lists 𝓤 H (𝓖 .A) (𝓜 .mem) (𝓡 .run)) 𝓜 𝓡 code.env #leaf-room·digest-list lists-def.routine code.calls-leaf-room·digest-list (lists-thm.met 𝓤 H 𝓜 𝓖 𝓡)))

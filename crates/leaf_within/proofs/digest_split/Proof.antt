@@ -1,7 +1,9 @@
 -- `leaf_within::digest_split` meets its contract.
 -- Assumes nothing.
+use mathlib.Core.Path.{sym, ap, _∙_}
 use Rattle.leaf_step.proofs.Closed.{a-page-has-4096-bytes}
-use Rattle.leaf_within.proofs.Shorter.{its-page-can-be-counted, its-records-can-be-counted, there-are-rows, as-many-rows-are-cut, it-can-be-digested}
+use Rattle.leaf_within.specs.Within.{roomNeeded}
+use Rattle.leaf_within.proofs.Shorter.{its-page-can-be-counted, there-are-rows, as-many-rows-are-cut, it-can-be-digested}
 use Rattle.leaf_within.proofs.Gathering.{the-lists-digest-is-made}
 use borrow.Author.Needs.{needs}
 use Rattle.leaf_within.proofs.digest_split.Statement.{statement}
@@ -14,54 +16,41 @@ records-in-requires : tie.Need-records-in-requires
 records-in-requires c κs =
     let start = c .before .before .before .before .before in
     let args = start .args in
-    (a-page-has-4096-bytes, its-page-can-be-counted (args .work) (args .rows .now) (args .keys .now) (args .store .now) (args .page .now) (args .area .now) (args .tickets .now) (start .pre) _ (c .regard .ensures))
+    (a-page-has-4096-bytes, its-page-can-be-counted (args .work) (args .entries) (args .rows .now) (args .keys .now) (args .store .now) (args .page .now) (args .area .now) (args .tickets .now) (start .pre) _ (c .regard .ensures))
 
 read-keys-requires : tie.Need-read-keys-requires
 read-keys-requires c κs = search needs
 
-rows-needed-requires : tie.Need-rows-needed-requires
-rows-needed-requires c κs =
-    let counted = c .before .before in
-    let regarded = counted .before in
-    let start = regarded .before .before .before .before .before in
-    let args = start .args in
-    its-records-can-be-counted (args .work) (args .rows .now) (args .keys .now) (args .store .now) (args .page .now) (args .area .now) (args .tickets .now) (start .pre) _ (regarded .regard .ensures) _ (counted .records-in .ensures .0) (counted .records-in .ensures .1)
+room-needed-requires : tie.Need-room-needed-requires
+room-needed-requires c κs = search needs
 
 slice-relend-prefix-digest-ready : tie.Need-slice-relend-prefix-digest-ready
 slice-relend-prefix-digest-ready c =
     let needed = c in
-    let counted = needed .before .before .before in
-    let regarded = counted .before in
-    let start = regarded .before .before .before .before .before in
+    let start = needed .before .before .before .before .before .before .before .before .before in
     let args = start .args in
-    there-are-rows (args .work) (args .rows .now) (args .keys .now) (args .store .now) (args .page .now) (args .area .now) (args .tickets .now) (start .pre) _ (regarded .regard .ensures) _ (counted .records-in .ensures .0) _ (needed .rows-needed .ensures) .0
+    there-are-rows (args .work) (args .entries) (args .rows .now) (args .keys .now) (args .store .now) (args .page .now) (args .area .now) (args .tickets .now) (start .pre) _ (needed .room-needed .ensures) .0
 
 slice-aggregate-digest-ready : tie.Need-slice-aggregate-digest-ready
 slice-aggregate-digest-ready c =
     let needed = c .before in
-    let counted = needed .before .before .before in
-    let regarded = counted .before in
-    let start = regarded .before .before .before .before .before in
+    let start = needed .before .before .before .before .before .before .before .before .before in
     let args = start .args in
-    as-many-rows-are-cut (args .work) (args .rows .now) (args .keys .now) (args .store .now) (args .page .now) (args .area .now) (args .tickets .now) (start .pre) _ (regarded .regard .ensures) _ (counted .records-in .ensures .0) _ (needed .rows-needed .ensures) .0
+    as-many-rows-are-cut (args .work) (args .entries) (args .rows .now) (args .keys .now) (args .store .now) (args .page .now) (args .area .now) (args .tickets .now) (start .pre) _ (needed .room-needed .ensures) .0
 
 slice-relend-prefix-digest-ready-2 : tie.Need-slice-relend-prefix-digest-ready-2
 slice-relend-prefix-digest-ready-2 c =
     let needed = c .before in
-    let counted = needed .before .before .before in
-    let regarded = counted .before in
-    let start = regarded .before .before .before .before .before in
+    let start = needed .before .before .before .before .before .before .before .before .before in
     let args = start .args in
-    there-are-rows (args .work) (args .rows .now) (args .keys .now) (args .store .now) (args .page .now) (args .area .now) (args .tickets .now) (start .pre) _ (regarded .regard .ensures) _ (counted .records-in .ensures .0) _ (needed .rows-needed .ensures) .1
+    there-are-rows (args .work) (args .entries) (args .rows .now) (args .keys .now) (args .store .now) (args .page .now) (args .area .now) (args .tickets .now) (start .pre) _ (needed .room-needed .ensures) .1
 
 slice-aggregate-digest-ready-2 : tie.Need-slice-aggregate-digest-ready-2
 slice-aggregate-digest-ready-2 c =
     let needed = c .before .before in
-    let counted = needed .before .before .before in
-    let regarded = counted .before in
-    let start = regarded .before .before .before .before .before in
+    let start = needed .before .before .before .before .before .before .before .before .before in
     let args = start .args in
-    as-many-rows-are-cut (args .work) (args .rows .now) (args .keys .now) (args .store .now) (args .page .now) (args .area .now) (args .tickets .now) (start .pre) _ (regarded .regard .ensures) _ (counted .records-in .ensures .0) _ (needed .rows-needed .ensures) .1
+    as-many-rows-are-cut (args .work) (args .entries) (args .rows .now) (args .keys .now) (args .store .now) (args .page .now) (args .area .now) (args .tickets .now) (start .pre) _ (needed .room-needed .ensures) .1
 
 digest-ready-requires : tie.Need-digest-ready-requires
 digest-ready-requires c κs =
@@ -70,10 +59,10 @@ digest-ready-requires c κs =
     let regarded = counted .before in
     let start = regarded .before .before .before .before .before in
     let args = start .args in
-    (it-can-be-digested (args .work) (args .rows .now) (args .keys .now) (args .store .now) (args .page .now) (args .area .now) (args .tickets .now) (start .pre) _ (regarded .regard .ensures) _ (counted .records-in .ensures .0) _ (needed .rows-needed .ensures) (needed .before .read-keys .ensures), counted .records-in .ensures .0)
+    (it-can-be-digested (args .work) (args .entries) (args .rows .now) (args .keys .now) (args .store .now) (args .page .now) (args .area .now) (args .tickets .now) (start .pre) _ (needed .room-needed .ensures) _ (regarded .regard .ensures) (needed .before .read-keys .ensures), counted .records-in .ensures .0)
 
-greater-requires : tie.Need-greater-requires
-greater-requires c κs = search needs
+larger-requires : tie.Need-larger-requires
+larger-requires c κs = search needs
 
 step-of-requires : tie.Need-step-of-requires
 step-of-requires c κs = search needs
@@ -94,7 +83,7 @@ same-length-5 : tie.Need-same-length-5
 same-length-5 c = search needs
 
 returns : tie.Need-returns
-returns c list unused from none =
+returns c list unused long from none =
     let given = c .before .before .before .before .before .before .before .before .before .before .before in
     let digested = given .before in
     let needed = digested .before .before .before .before .before .before in
@@ -102,9 +91,9 @@ returns c list unused from none =
     let regarded = counted .before in
     let start = regarded .before .before .before .before .before in
     let args = start .args in
-    let there = there-are-rows (args .work) (args .rows .now) (args .keys .now) (args .store .now) (args .page .now) (args .area .now) (args .tickets .now) (start .pre) _ (regarded .regard .ensures) _ (counted .records-in .ensures .0) _ (needed .rows-needed .ensures) in
-    the-lists-digest-is-made (args .work) (args .rows .now) (args .keys .now) (args .store .now) (args .page .now) (args .area .now) (args .tickets .now) list unused from none _ (regarded .regard .ensures) _ (counted .records-in .ensures .0) _ (needed .rows-needed .ensures) (there .0) (there .1) (needed .before .read-keys .ensures)
-    _ (digested .digest-ready .last .1 .0) (digested .digest-ready .last .1 .1 .0) _ _ _ (digested .digest-ready .ensures) (given .rows .given .0) _ (c .before .greater .ensures) _ (c .step-of .ensures)
+    let there = there-are-rows (args .work) (args .entries) (args .rows .now) (args .keys .now) (args .store .now) (args .page .now) (args .area .now) (args .tickets .now) (start .pre) _ (needed .room-needed .ensures) in
+    the-lists-digest-is-made (args .work) (args .rows .now) (args .keys .now) (args .store .now) (args .page .now) (args .area .now) (args .tickets .now) list unused from none _ (regarded .regard .ensures) _ (needed .room-needed .ensures .0 ∙ ap (roomNeeded (args .work)) (sym long)) (there .0) (there .1) (needed .before .read-keys .ensures)
+    _ (digested .digest-ready .last .1 .0) (digested .digest-ready .last .1 .1 .0) _ _ _ (digested .digest-ready .ensures) (given .rows .given .0) _ (c .before .larger .ensures) _ (c .step-of .ensures)
 
 pub digest-split-spec : {M : Type 1} → statement M
 digest-split-spec =
@@ -113,13 +102,13 @@ digest-split-spec =
     regard-requires
     records-in-requires
     read-keys-requires
-    rows-needed-requires
+    room-needed-requires
     slice-relend-prefix-digest-ready
     slice-aggregate-digest-ready
     slice-relend-prefix-digest-ready-2
     slice-aggregate-digest-ready-2
     digest-ready-requires
-    greater-requires
+    larger-requires
     step-of-requires
     same-length
     same-length-2

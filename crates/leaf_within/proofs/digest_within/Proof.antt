@@ -60,7 +60,7 @@ returns-2 c list l from =
     let accepted = c .before .before .before .before .before .before .before .before .before .before .before .before .before .before in
     let judged = accepted .before in
     let digested = c .before .before .before .before .before .before .before .before in
-    digested .digest-split .ensures list _ from (sym (judged .digest-number .ensures list l from) ∙ accepted .if1 .left)
+    digested .digest-split .ensures list _ l from (sym (judged .digest-number .ensures list l from) ∙ accepted .if1 .left)
 
 pub digest-within-spec : {M : Type 1} → statement M
 digest-within-spec =

@@ -1,6 +1,6 @@
 -- `leaf_within::room_needed` meets its contract.
 -- Assumes nothing.
-use Rattle.leaf_within.proofs.Counts.{a-long-tally-needs-all, so-much-is-needed}
+use Rattle.leaf_within.proofs.Counts.{many-used-entries-need-all, so-much-is-needed}
 use borrow.Author.Needs.{needs}
 use Rattle.leaf_within.proofs.room_needed.Statement.{statement}
 use Rattle.leaf_within.proofs.room_needed.Tie as tie
@@ -12,25 +12,23 @@ returns : tie.Need-returns
 returns c =
     let counted = c .before .before in
     let start = counted .before in
-    a-long-tally-needs-all (start .args .entries) (start .args .work) (c .if1 .taken) _ (counted .at-most .ensures)
+    many-used-entries-need-all (start .args .entries) (start .args .work) (c .if1 .taken) _ (counted .at-most .ensures)
 
-add-greater : tie.Need-add-greater
-add-greater c = search needs
+kept-room-requires : tie.Need-kept-room-requires
+kept-room-requires c κs = search needs
 
-greater-requires : tie.Need-greater-requires
-greater-requires c κs = search needs
+add-lesser : tie.Need-add-lesser
+add-lesser c = search needs
 
 lesser-requires : tie.Need-lesser-requires
 lesser-requires c κs = search needs
 
 returns-2 : tie.Need-returns-2
 returns-2 c =
-    let chosen = c .before in
-    let counted = chosen .before .before .before .before in
+    let kept = c .before .before in
+    let counted = kept .before .before .before in
     let start = counted .before in
-    so-much-is-needed (start .args .entries) (start .args .work) _ _ _ (counted .at-most .ensures) (chosen .greater .ensures) (c .lesser .ensures)
+    so-much-is-needed (start .args .entries) (start .args .work) _ _ _ (counted .at-most .ensures) (kept .kept-room .ensures .0) (c .lesser .ensures)
 
 pub room-needed-spec : {M : Type 1} → statement M
-room-needed-spec =
-    tie.close
-    (tie.spec at-most-requires returns add-greater greater-requires lesser-requires returns-2)
+room-needed-spec = tie.close (tie.spec at-most-requires returns kept-room-requires add-lesser lesser-requires returns-2)

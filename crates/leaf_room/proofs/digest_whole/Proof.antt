@@ -1,4 +1,4 @@
--- `leaf_split::digest_list` meets its contract: a walk of its MIR, by hand. All that is lent, but the page, goes for good to the one function or the
+-- `leaf_room::digest_whole` meets its contract: a walk of its MIR, by hand. All that is lent, but the page, goes for good to the one function or the
 -- other.
 -- Assumes nothing.
 use mathlib.Core.Path.{_≡_, refl, sym, _∙_, ap, subst}
@@ -45,30 +45,30 @@ use Rattle.leaf_work.specs.declared.Work.{Work}
 use Rattle.leaf_work.specs.declared.Entry.{Entry}
 use Rattle.leaf_within.specs.declared.DigestStep.{DigestStep}
 use Rattle.leaf_within.specs.Within.{roomNeeded}
 use Rattle.leaf_split.specs.Digests.{DigestSteps}
 use Rattle.leaf_entries.proofs.Locals.{tyAt}
 use Rattle.leaf_work.proofs.Work as K
 use Rattle.leaf_work.proofs.Work.Laws as K′
 use Rattle.leaf_work.proofs.Entry as T
 use Rattle.leaf_within.proofs.DigestStep as Q
 use Rattle.leaf_within.proofs.DigestStep.Laws as Q′
-use Rattle.leaf_split.proofs.digest_small as one
-use Rattle.leaf_split.proofs.digest_small.Symbol as one-def
-use Rattle.leaf_split.proofs.digest_small.Symbol.{name as #leaf-split·digest-small}
-use Rattle.leaf_split.proofs.digest_small.Met as one-thm
-use Rattle.leaf_split.proofs.digest_long as two
-use Rattle.leaf_split.proofs.digest_long.Symbol as two-def
-use Rattle.leaf_split.proofs.digest_long.Symbol.{name as #leaf-split·digest-long}
-use Rattle.leaf_split.proofs.digest_long.Met as two-thm
+use Rattle.leaf_split.proofs.digest_bare as one
+use Rattle.leaf_split.proofs.digest_bare.Symbol as one-def
+use Rattle.leaf_split.proofs.digest_bare.Symbol.{name as #leaf-split·digest-bare}
+use Rattle.leaf_split.proofs.digest_bare.Met as one-thm
+use Rattle.leaf_room.proofs.digest_long as two
+use Rattle.leaf_room.proofs.digest_long.Symbol as two-def
+use Rattle.leaf_room.proofs.digest_long.Symbol.{name as #leaf-room·digest-long}
+use Rattle.leaf_room.proofs.digest_long.Met as two-thm
 use Rattle.leaf_within.proofs.room_needed as needed
 use Rattle.leaf_within.proofs.room_needed.Symbol as needed-def
 use Rattle.leaf_within.proofs.room_needed.Symbol.{name as #leaf-within·room-needed}
 use Rattle.leaf_within.proofs.room_needed.Met as needed-thm
-use Rattle.leaf_split.proofs.digest_list.Key.{name as #leaf-split·digest-list}
-use Rattle.leaf_split.proofs.digest_list as own
-use Rattle.leaf_split.proofs.digest_list.Statement as stated
-use Rattle.leaf_split.proofs.digest_list.Code as code
-use Rattle.leaf_split.proofs.digest_list.Code.Mir as piece
+use Rattle.leaf_room.proofs.digest_whole.Key.{name as #leaf-room·digest-whole}
+use Rattle.leaf_room.proofs.digest_whole as own
+use Rattle.leaf_room.proofs.digest_whole.Statement as stated
+use Rattle.leaf_room.proofs.digest_whole.Code as code
+use Rattle.leaf_room.proofs.digest_whole.Code.Mir as piece
 
 abbrev E : RattleType
 E = T.the-row
@@ -85,8 +85,8 @@ machQ r = only (LL.vals Q.the-type Q′.the-laws r)
 
 module _ {M : Type 1} (𝓤 : URA M) (H : Heap 𝓤) (A : Atoms 𝓤) (mem : Memory → SProp 𝓤) (run : Routine → Fun 𝓤) where
   -- the contracts that the proof cites
-  abbrev Small : Contract 𝓤
-  Small = tripleOf 𝓤 H A one.signature (one.spec 𝓤 H A mem run)
+  abbrev Bare : Contract 𝓤
+  Bare = tripleOf 𝓤 H A one.signature (one.spec 𝓤 H A mem run)
 
   abbrev Room-needed : Contract 𝓤
   Room-needed = tripleOf 𝓤 H A needed.signature (needed.spec 𝓤 H A mem run)
@@ -168,13 +168,13 @@ module _ {M : Type 1} (𝓤 : URA M) (H : Heap 𝓤) (A : Atoms 𝓤) (W : Given
   said₀ : (m : ℕ) → ent 𝓤 (ensured 𝓤 H A needed.ended (needed.clauses 𝓤 H A at-mem run) tt (w₀, (n, tt)) tt m) (fact 𝓤 (Needed m))
   said₀ m = exE 𝓤 _ (λ ws. snd∗ 𝓤 (sem 𝓤 H A (lasts needed.ended tt (w₀, (n, tt)) ws)) (fact 𝓤 (Needed m)))
 
-  few : (m : ℕ) → Needed m → m < 129 → roomNeeded w₀ n ≤ 128
+  few : (m : ℕ) → Needed m → m < 65 → roomNeeded w₀ n ≤ 64
   few m (e, _) h = omega (arith, e, h)
 
-  abbrev to₁ : Small 𝓤 H A at-mem run .Ghost
+  abbrev to₁ : Bare 𝓤 H A at-mem run .Ghost
   to₁ = ((κs, (q₀, (q₁, (q₂, (q₃, (q₄, tt))))), tt, args, vals), tt)
 
-  asked₁ : roomNeeded w₀ n ≤ 128 → ent 𝓤 (⋆ 𝓤 H A lent) (Small 𝓤 H A at-mem run .pre to₁)
+  asked₁ : roomNeeded w₀ n ≤ 64 → ent 𝓤 (⋆ 𝓤 H A lent) (Bare 𝓤 H A at-mem run .pre to₁)
   asked₁ h = qed W lent ∵ says ! h $ nothing ! $ move ! (6 ∷ 0 ∷ []) $ fjoin ! $ move ! (5 ∷ 0 ∷ []) $ fjoin ! $ move ! (4 ∷ 0 ∷ []) $ fjoin ! $ move ! (3 ∷ 0 ∷ []) $ fjoin ! $ move ! (2 ∷ 0 ∷ []) $ fjoin ! $ owned ! K.the-row (Is K.the-row) (LL.makes K.the-type K′.the-plain 𝓤 H A) w₀ _ is-w $ fjoin ! $ move ! (1 ∷ 0 ∷ []) $ frame ! $ done !
 
   abbrev to₂ : Long 𝓤 H A at-mem run .Ghost
@@ -183,7 +183,7 @@ module _ {M : Type 1} (𝓤 : URA M) (H : Heap 𝓤) (A : Atoms 𝓤) (W : Given
   asked₂ : ent 𝓤 (⋆ 𝓤 H A lent) (Long 𝓤 H A at-mem run .pre to₂)
   asked₂ = qed W lent ∵ nothing ! $ move ! (6 ∷ 0 ∷ []) $ fjoin ! $ move ! (5 ∷ 0 ∷ []) $ fjoin ! $ move ! (4 ∷ 0 ∷ []) $ fjoin ! $ move ! (3 ∷ 0 ∷ []) $ fjoin ! $ move ! (2 ∷ 0 ∷ []) $ fjoin ! $ owned ! K.the-row (Is K.the-row) (LL.makes K.the-type K′.the-plain 𝓤 H A) w₀ _ is-w $ fjoin ! $ move ! (1 ∷ 0 ∷ []) $ join ! $ frame ! $ done !
 
-  module _ (C : Calls 𝓤 H) (Λ : Loops 𝓤 H) (fm : FmC 𝓤 H (W .laws) C) (known₀ : Triple 𝓤 (C #leaf-within·room-needed) (Room-needed 𝓤 H A at-mem run)) (known₁ : Triple 𝓤 (C #leaf-split·digest-small) (Small 𝓤 H A at-mem run)) (known₂ : Triple 𝓤 (C #leaf-split·digest-long) (Long 𝓤 H A at-mem run)) where
+  module _ (C : Calls 𝓤 H) (Λ : Loops 𝓤 H) (fm : FmC 𝓤 H (W .laws) C) (known₀ : Triple 𝓤 (C #leaf-within·room-needed) (Room-needed 𝓤 H A at-mem run)) (known₁ : Triple 𝓤 (C #leaf-split·digest-bare) (Bare 𝓤 H A at-mem run)) (known₂ : Triple 𝓤 (C #leaf-room·digest-long) (Long 𝓤 H A at-mem run)) where
     abbrev En : (l₀ l₁ l₂ l₃ l₄ l₅ l₆ l₇ l₈ l₉ l₁₀ l₁₁ l₁₂ l₁₃ l₁₄ l₁₅ l₁₆ l₁₇ l₁₈ l₁₉ l₂₀ l₂₁ l₂₂ l₂₃ l₂₄ l₂₅ l₂₆ l₂₇ l₂₈ : ℕ) → Env 𝓤 H
     En l₀ l₁ l₂ l₃ l₄ l₅ l₆ l₇ l₈ l₉ l₁₀ l₁₁ l₁₂ l₁₃ l₁₄ l₁₅ l₁₆ l₁₇ l₁₈ l₁₉ l₂₀ l₂₁ l₂₂ l₂₃ l₂₄ l₂₅ l₂₆ l₂₇ l₂₈ = (tyAt piece.locals 0, l₀) ∷ (tyAt piece.locals 1, l₁) ∷ (tyAt piece.locals 2, l₂) ∷ (tyAt piece.locals 3, l₃) ∷ (tyAt piece.locals 4, l₄) ∷ (tyAt piece.locals 5, l₅) ∷ (tyAt piece.locals 6, l₆) ∷ (tyAt piece.locals 7, l₇) ∷ (tyAt piece.locals 8, l₈) ∷ (tyAt piece.locals 9, l₉) ∷ (tyAt piece.locals 10, l₁₀) ∷ (tyAt piece.locals 11, l₁₁) ∷ (tyAt piece.locals 12, l₁₂) ∷ (tyAt piece.locals 13, l₁₃) ∷ (tyAt piece.locals 14, l₁₄) ∷ (tyAt piece.locals 15, l₁₅) ∷ (tyAt piece.locals 16, l₁₆) ∷ (tyAt piece.locals 17, l₁₇) ∷ (tyAt piece.locals 18, l₁₈) ∷ (tyAt piece.locals 19, l₁₉) ∷ (tyAt piece.locals 20, l₂₀) ∷ (tyAt piece.locals 21, l₂₁) ∷ (tyAt piece.locals 22, l₂₂) ∷ (tyAt piece.locals 23, l₂₃) ∷ (tyAt piece.locals 24, l₂₄) ∷ (tyAt piece.locals 25, l₂₅) ∷ (tyAt piece.locals 26, l₂₆) ∷ (tyAt piece.locals 27, l₂₇) ∷ (tyAt piece.locals 28, l₂₈) ∷ []
 
@@ -212,8 +212,8 @@ module _ {M : Type 1} (𝓤 : URA M) (H : Heap 𝓤) (A : Atoms 𝓤) (W : Given
         assigns ! (addr ! (from ! (fld ! refl (hop ! (look-in ! 49 (sub ! 0 refl (whole !))) (stop !))))) (from ! (stop !)) (init ! 23 refl (tt, tt)) $
         assigns ! (agg ! (and-then ! (load ! (from ! (stop !)) (look ! 23 refl)) (and-then ! (load ! (from ! (fld ! refl (stop !))) (look-in ! 49 (sub ! 1 refl (whole !)))) (no-more !)))) (from ! (stop !)) (init ! 21 refl (tt, (tt, (record { fits = rt .0 }, tt)))) $
         move ! (2 ∷ []) $ use1 W (‵ Page ⊛ ‵ Page) (shr-slice-copy 𝓤 H A W (named 2) κ₂ u8 .twice p (sl p ∷ [])) $ split ! $
-        move ! (64 ∷ 5 ∷ 4 ∷ 0 ∷ 3 ∷ 2 ∷ []) $ group ! 6 $ use1 W (raw (Small 𝓤 H A at-mem run .pre to₁)) (asked₁ (few m f₀ (ltb→lt m 129 yes))) $
-        calls-at ! fm (Small 𝓤 H A at-mem run) known₁ to₁ (and-then ! (load ! (from ! (stop !)) (look ! 56 refl)) (and-then ! (load ! (from ! (stop !)) (look ! 30 refl)) (and-then ! (load ! (from ! (stop !)) (look ! 26 refl)) (and-then ! (load ! (from ! (stop !)) (look ! 50 refl)) (and-then ! (load ! (from ! (stop !)) (look ! 22 refl)) (and-then ! (load ! (from ! (stop !)) (look ! 18 refl)) (no-more !))))))) (λ w₃.
+        move ! (64 ∷ 5 ∷ 4 ∷ 0 ∷ 3 ∷ 2 ∷ []) $ group ! 6 $ use1 W (raw (Bare 𝓤 H A at-mem run .pre to₁)) (asked₁ (few m f₀ (ltb→lt m 65 yes))) $
+        calls-at ! fm (Bare 𝓤 H A at-mem run) known₁ to₁ (and-then ! (load ! (from ! (stop !)) (look ! 56 refl)) (and-then ! (load ! (from ! (stop !)) (look ! 30 refl)) (and-then ! (load ! (from ! (stop !)) (look ! 26 refl)) (and-then ! (load ! (from ! (stop !)) (look ! 50 refl)) (and-then ! (load ! (from ! (stop !)) (look ! 22 refl)) (and-then ! (load ! (from ! (stop !)) (look ! 18 refl)) (no-more !))))))) (λ w₃.
         use1 W (later (some (λ (r : DigestStep). (toks ⊛ ‵ (Q.the-row .own r (w₃ ∷ []))) ⊛ raw (ensured 𝓤 H A one.ended (one.clauses 𝓤 H A at-mem run) κs args tt r)))) (id⊢ 𝓤 _) $ await ! tt $ pick ! (λ r₃.
         split ! $ move ! (1 ∷ []) $ use1 W (some (λ (ls : Lasts). ‵ (lasts one.ended κs args ls) ⊛ raw (fact 𝓤 (Ends r₃ (ls .1 .0) (ls .1 .1 .0) (ls .1 .1 .1 .1 .0) (ls .1 .1 .1 .1 .1 .0))))) (id⊢ 𝓤 _) $ pick ! (λ ls.
         split ! $ move ! (1 ∷ []) $ heard ! (Ends r₃ (ls .1 .0) (ls .1 .1 .0) (ls .1 .1 .1 .1 .0) (ls .1 .1 .1 .1 .1 .0)) (λ f₃. fsplit ! $ drop ! $ fsplit ! $ fsplit ! $ move ! (1 ∷ []) $ feqL ! (λ n₀. move ! (1 ∷ []) $ fsplit ! $ fsplit ! $ move ! (1 ∷ []) $ feqL ! (λ n₁. move ! (1 ∷ []) $ fsplit ! $ drop ! $ fsplit ! $ fsplit ! $ move ! (1 ∷ []) $ feqL ! (λ n₃. move ! (1 ∷ []) $ fsplit ! $ fsplit ! $ move ! (1 ∷ []) $ feqL ! (λ n₄. move ! (1 ∷ []) $ drop ! $
@@ -254,26 +254,26 @@ module _ {M : Type 1} (𝓤 : URA M) (H : Heap 𝓤) (A : Atoms 𝓤) (W : Given
         keep ! (0 ∷ 4 ∷ 3 ∷ 5 ∷ 2 ∷ 1 ∷ []) $ by ! (exits r₃ (ls .1 .0) (ls .1 .1 .0) (ls .1 .1 .1 .1 .0) (ls .1 .1 .1 .1 .1 .0) f₃ n₀ n₁ n₃ n₄ is-r))))))))))))))))))))))))))))))))))))))))))))
 
 module _ {M : Type 1} (𝓤 : URA M) (H : Heap 𝓤) (A : Atoms 𝓤) (W : Given 𝓤 H A) (mem : Memory → SProp 𝓤) (run : Routine → Fun 𝓤) (𝓣 : Tables 𝓤 H)
-    (known₀ : Triple 𝓤 (𝓣 .C #leaf-within·room-needed) (Room-needed 𝓤 H A mem run)) (known₁ : Triple 𝓤 (𝓣 .C #leaf-split·digest-small) (Small 𝓤 H A mem run)) (known₂ : Triple 𝓤 (𝓣 .C #leaf-split·digest-long) (Long 𝓤 H A mem run)) where
-  digest-list-walks : Walks 𝓤 H A own.ended stayed (WpFn 𝓤 H (𝓣 .C) (𝓣 .Λ) code.function) (own.clauses 𝓤 H A mem run)
-  digest-list-walks = walked 𝓤 H A own.ended stayed (own.clauses 𝓤 H A mem run) (WpFn 𝓤 H (𝓣 .C) (𝓣 .Λ) code.function)
+    (known₀ : Triple 𝓤 (𝓣 .C #leaf-within·room-needed) (Room-needed 𝓤 H A mem run)) (known₁ : Triple 𝓤 (𝓣 .C #leaf-split·digest-bare) (Bare 𝓤 H A mem run)) (known₂ : Triple 𝓤 (𝓣 .C #leaf-room·digest-long) (Long 𝓤 H A mem run)) where
+  digest-whole-walks : Walks 𝓤 H A own.ended stayed (WpFn 𝓤 H (𝓣 .C) (𝓣 .Λ) code.function) (own.clauses 𝓤 H A mem run)
+  digest-whole-walks = walked 𝓤 H A own.ended stayed (own.clauses 𝓤 H A mem run) (WpFn 𝓤 H (𝓣 .C) (𝓣 .Λ) code.function)
       (λ κs. (LL.vals K.the-type K′.the-laws, (slice-vals, (slice-vals, (slice-vals, (slice-vals, (slice-vals, tt)))))))
       (λ κs. (LL.tells K.the-type K′.the-laws, (mut-slice-tells (named 0) (κs .0) E, (mut-slice-tells (named 1) (κs .1 .0) u8, (shr-slice-tells (named 2) (κs .1 .1 .0) u8, (mut-slice-tells (named 3) (κs .1 .1 .1 .0) u8, (mut-slice-tells (named 4) (κs .1 .1 .1 .1 .0) u8, tt)))))))
       (λ κs qs bounds a g are. via 𝓤 _ (fst∗ 𝓤 _ (emp 𝓤))
       (walk 𝓤 H A W mem run (κs .0) (κs .1 .0) (κs .1 .1 .0) (κs .1 .1 .1 .0) (κs .1 .1 .1 .1 .0) (qs .0) (qs .1 .0) (qs .1 .1 .0) (qs .1 .1 .1 .0) (qs .1 .1 .1 .1 .0) (a .0) (are .0) (a .1 .0) (a .1 .1 .0) (a .1 .1 .1 .0) (a .1 .1 .1 .1 .0) (a .1 .1 .1 .1 .1 .0) (𝓣 .C) (𝓣 .Λ) (fmOf 𝓤 H (W .laws) 𝓣) known₀ known₁ known₂ (are .1 .0 .0 .1) (are .1 .1 .0 .0 .1) (are .1 .1 .1 .0 .0 .1) (are .1 .1 .1 .1 .0 .0 .1) (are .1 .1 .1 .1 .1 .0 .0 .1)))
 
-  digest-list-meets : Meets 𝓤 H A own.signature (WpFn 𝓤 H (𝓣 .C) (𝓣 .Λ) code.function) (own.spec 𝓤 H A mem run)
-  digest-list-meets =
+  digest-whole-meets : Meets 𝓤 H A own.signature (WpFn 𝓤 H (𝓣 .C) (𝓣 .Λ) code.function) (own.spec 𝓤 H A mem run)
+  digest-whole-meets =
       walk-meets 𝓤 H A own.ended stayed W
       (goes-none 𝓤 H A W 5 (λ _. K.the-row) yes (λ κs x f. refl), (goes-gave-slice 𝓤 H A W 5 0 tt (plain (λ _. E)), (goes-gave-slice 𝓤 H A W 5 1 tt (plain (λ _. u8)), (goes-none-slice 𝓤 H A W 5 (2 ∷ []) tt (plain (λ _. u8)) yes, (goes-gave-slice 𝓤 H A W 5 3 tt (plain (λ _. u8)), (goes-gave-slice 𝓤 H A W 5 4 tt (plain (λ _. u8)), tt))))))
-      (own.clauses 𝓤 H A mem run) (WpFn 𝓤 H (𝓣 .C) (𝓣 .Λ) code.function) (WpFn-mono 𝓤 H (W .laws) 𝓣 code.function) digest-list-walks
+      (own.clauses 𝓤 H A mem run) (WpFn 𝓤 H (𝓣 .C) (𝓣 .Λ) code.function) (WpFn-mono 𝓤 H (W .laws) 𝓣 code.function) digest-whole-walks
 
-pub digest-list-spec : {M : Type 1} → stated.statement M
+pub digest-whole-spec : {M : Type 1} → stated.statement M
 unfolding code.routine tablesOf
-digest-list-spec 𝓤 H 𝓜 𝓖 𝓡 =
+digest-whole-spec 𝓤 H 𝓜 𝓖 𝓡 =
     entered 𝓤 H (tripleOf 𝓤 H (𝓖 .A) own.signature (own.spec 𝓤 H (𝓖 .A) (𝓜 .mem) (𝓡 .run)))
-    (tables 𝓤 H 𝓜 𝓡 code.env .C) (tables 𝓤 H 𝓜 𝓡 code.env .Λ) #leaf-split·digest-list code.function (code.unfolded 𝓤 H 𝓜 𝓡)
-    (digest-list-meets 𝓤 H (𝓖 .A) (givenOf 𝓤 H 𝓜 𝓖) (𝓜 .mem) (𝓡 .run) (tablesOf 𝓤 H 𝓜 (tables 𝓤 H 𝓜 𝓡 code.env))
+    (tables 𝓤 H 𝓜 𝓡 code.env .C) (tables 𝓤 H 𝓜 𝓡 code.env .Λ) #leaf-room·digest-whole code.function (code.unfolded 𝓤 H 𝓜 𝓡)
+    (digest-whole-meets 𝓤 H (𝓖 .A) (givenOf 𝓤 H 𝓜 𝓖) (𝓜 .mem) (𝓡 .run) (tablesOf 𝓤 H 𝓜 (tables 𝓤 H 𝓜 𝓡 code.env))
     (cited 𝓤 H (Room-needed 𝓤 H (𝓖 .A) (𝓜 .mem) (𝓡 .run)) 𝓜 𝓡 code.env #leaf-within·room-needed needed-def.routine code.calls-leaf-within·room-needed (needed-thm.met 𝓤 H 𝓜 𝓖 𝓡))
-    (cited 𝓤 H (Small 𝓤 H (𝓖 .A) (𝓜 .mem) (𝓡 .run)) 𝓜 𝓡 code.env #leaf-split·digest-small one-def.routine code.calls-leaf-split·digest-small (one-thm.met 𝓤 H 𝓜 𝓖 𝓡))
-    (cited 𝓤 H (Long 𝓤 H (𝓖 .A) (𝓜 .mem) (𝓡 .run)) 𝓜 𝓡 code.env #leaf-split·digest-long two-def.routine code.calls-leaf-split·digest-long (two-thm.met 𝓤 H 𝓜 𝓖 𝓡)))
+    (cited 𝓤 H (Bare 𝓤 H (𝓖 .A) (𝓜 .mem) (𝓡 .run)) 𝓜 𝓡 code.env #leaf-split·digest-bare one-def.routine code.calls-leaf-split·digest-bare (one-thm.met 𝓤 H 𝓜 𝓖 𝓡))
+    (cited 𝓤 H (Long 𝓤 H (𝓖 .A) (𝓜 .mem) (𝓡 .run)) 𝓜 𝓡 code.env #leaf-room·digest-long two-def.routine code.calls-leaf-room·digest-long (two-thm.met 𝓤 H 𝓜 𝓖 𝓡)))

@@ -1,4 +1,4 @@
--- `leaf_split::digest_long` meets its contract: a walk of its MIR, by hand. All that is lent, but the page, goes for good to the one function or the
+-- `leaf_room::digest_long` meets its contract: a walk of its MIR, by hand. All that is lent, but the page, goes for good to the one function or the
 -- other.
 -- Assumes nothing.
 use mathlib.Core.Path.{_≡_, refl, sym, _∙_, ap, subst}
@@ -45,30 +45,30 @@ use Rattle.leaf_work.specs.declared.Work.{Work}
 use Rattle.leaf_work.specs.declared.Entry.{Entry}
 use Rattle.leaf_within.specs.declared.DigestStep.{DigestStep}
 use Rattle.leaf_within.specs.Within.{roomNeeded}
 use Rattle.leaf_split.specs.Digests.{DigestSteps}
 use Rattle.leaf_entries.proofs.Locals.{tyAt}
 use Rattle.leaf_work.proofs.Work as K
 use Rattle.leaf_work.proofs.Work.Laws as K′
 use Rattle.leaf_work.proofs.Entry as T
 use Rattle.leaf_within.proofs.DigestStep as Q
 use Rattle.leaf_within.proofs.DigestStep.Laws as Q′
 use Rattle.leaf_split.proofs.digest_middle as one
 use Rattle.leaf_split.proofs.digest_middle.Symbol as one-def
 use Rattle.leaf_split.proofs.digest_middle.Symbol.{name as #leaf-split·digest-middle}
 use Rattle.leaf_split.proofs.digest_middle.Met as one-thm
 use Rattle.leaf_split.proofs.digest_large as two
 use Rattle.leaf_split.proofs.digest_large.Symbol as two-def
 use Rattle.leaf_split.proofs.digest_large.Symbol.{name as #leaf-split·digest-large}
 use Rattle.leaf_split.proofs.digest_large.Met as two-thm
 use Rattle.leaf_within.proofs.room_needed as needed
 use Rattle.leaf_within.proofs.room_needed.Symbol as needed-def
 use Rattle.leaf_within.proofs.room_needed.Symbol.{name as #leaf-within·room-needed}
 use Rattle.leaf_within.proofs.room_needed.Met as needed-thm
-use Rattle.leaf_split.proofs.digest_long.Key.{name as #leaf-split·digest-long}
-use Rattle.leaf_split.proofs.digest_long as own
-use Rattle.leaf_split.proofs.digest_long.Statement as stated
-use Rattle.leaf_split.proofs.digest_long.Code as code
-use Rattle.leaf_split.proofs.digest_long.Code.Mir as piece
+use Rattle.leaf_room.proofs.digest_long.Key.{name as #leaf-room·digest-long}
+use Rattle.leaf_room.proofs.digest_long as own
+use Rattle.leaf_room.proofs.digest_long.Statement as stated
+use Rattle.leaf_room.proofs.digest_long.Code as code
+use Rattle.leaf_room.proofs.digest_long.Code.Mir as piece
 
 abbrev E : RattleType
 E = T.the-row
@@ -272,7 +272,7 @@ pub digest-long-spec : {M : Type 1} → stated.statement M
 unfolding code.routine tablesOf
 digest-long-spec 𝓤 H 𝓜 𝓖 𝓡 =
     entered 𝓤 H (tripleOf 𝓤 H (𝓖 .A) own.signature (own.spec 𝓤 H (𝓖 .A) (𝓜 .mem) (𝓡 .run)))
-    (tables 𝓤 H 𝓜 𝓡 code.env .C) (tables 𝓤 H 𝓜 𝓡 code.env .Λ) #leaf-split·digest-long code.function (code.unfolded 𝓤 H 𝓜 𝓡)
+    (tables 𝓤 H 𝓜 𝓡 code.env .C) (tables 𝓤 H 𝓜 𝓡 code.env .Λ) #leaf-room·digest-long code.function (code.unfolded 𝓤 H 𝓜 𝓡)
     (digest-long-meets 𝓤 H (𝓖 .A) (givenOf 𝓤 H 𝓜 𝓖) (𝓜 .mem) (𝓡 .run) (tablesOf 𝓤 H 𝓜 (tables 𝓤 H 𝓜 𝓡 code.env))
     (cited 𝓤 H (Room-needed 𝓤 H (𝓖 .A) (𝓜 .mem) (𝓡 .run)) 𝓜 𝓡 code.env #leaf-within·room-needed needed-def.routine code.calls-leaf-within·room-needed (needed-thm.met 𝓤 H 𝓜 𝓖 𝓡))
     (cited 𝓤 H (Small 𝓤 H (𝓖 .A) (𝓜 .mem) (𝓡 .run)) 𝓜 𝓡 code.env #leaf-split·digest-middle one-def.routine code.calls-leaf-split·digest-middle (one-thm.met 𝓤 H 𝓜 𝓖 𝓡))

@@ -1,0 +1,1 @@
+-- Laws on plain values, for the functions' proofs.
