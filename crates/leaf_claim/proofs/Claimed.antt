@@ -11,19 +11,20 @@ use borrow.Author.Tests.{eq-eqb}
 use Rattle.leaf_node.specs.Limits.{PageSize}
 use Rattle.leaf_node.specs.Record.{Record}
 use Rattle.leaf_node.specs.Fits.{All, cons}
+use Rattle.leaf_model.specs.Basics.{nonempty}
 use Rattle.leaf_model.specs.Cut.{Cut}
-use Rattle.leaf_model.specs.Work.{Change, plan, finished, turnAfter}
+use Rattle.leaf_model.specs.Work.{Change, zeroKey, plan, finished, turnAfter, separatorAfter, overrideAfter, floorAfter}
 use Rattle.leaf_model.proofs.Lists.{all-map}
 use Rattle.leaf_model.proofs.AsThePaperSays.{cutting-as-the-paper-says}
 use Rattle.leaf_model.proofs.Separators.{linked-leaf-ends-where-the-next-starts}
 use Rattle.leaf_work.specs.declared.Work.{Work}
 use Rattle.leaf_work.specs.declared.Entry.{Entry}
-use Rattle.leaf_work.specs.Tests.{oneOf}
+use Rattle.leaf_work.specs.Tests.{oneOf, isSet, bit, keyIf}
 use Rattle.leaf_work.specs.Lent.{turnNumber, cutoffOf, separatorOf, readsBase, regarded}
 use Rattle.leaf_work.specs.Pending.{listedOf, restOf, pendingOf}
 use Rattle.leaf_work.specs.Verdict.{Opening, openVerdict, lentVerdict}
 use Rattle.leaf_work.specs.Outcome.{replyNumber, openOf, ingestOf, nextBaseOf, removeCutoffOf}
-use Rattle.leaf_work.specs.Digest.{digestNumber, Digested, leavesBy, digestReplyBy, digestOf}
+use Rattle.leaf_work.specs.Digest.{digestNumber, Digested, pagesOf, ticketsOf, overwrite, leavesBy, digestReplyBy, digestOf}
 use Rattle.leaf_work.proofs.Laid.{Keyed, list-length, store-length, pending-parts}
 use Rattle.leaf_work.proofs.PendingRecords.{EntryKeyed}
 use Rattle.leaf_work.proofs.Canonical.{sound-work-is-canonical}
@@ -38,6 +39,12 @@ use Rattle.leaf_claim.proofs.RemovalStep.{removal-reaches-a-state}
 use Rattle.leaf_claim.proofs.OpeningStep.{accepted-opening-reaches-a-state}
 use Rattle.leaf_claim.proofs.Twins.{twins-answer-the-pending-records}
 use Rattle.leaf_claim.proofs.Refusals.{calls-are-refused-as-the-table-says}
+
+-- what a digest writes for an override is one where records are kept, and none where nothing is
+override-is-kept : (s : List ℕ) (leaves : List (List Record)) (left : List Record)
+    → keyIf (isSet (bit (nonempty left))) (oneOf (nonempty left) (separatorAfter s leaves left) zeroKey) ≡ overrideAfter s leaves left
+override-is-kept s leaves [] = refl
+override-is-kept s leaves (r ∷ rs) = refl
 
 -- list and store after a call: as long as before, and long enough for the entries and bytes that are used
 pub record RoomKept (s s′ : State) : Type 0 where
@@ -72,14 +79,20 @@ module _ (size : ℕ) (q : PageSize size) where
         (cutting-as-the-paper-says size q pending (rw (pending-parts (s .work) (s .list) (s .store) (regarded (s .work) (s .page))) (h .invariant .light)))
 
     digests-as-document-01-says : (any area tickets : List ℕ) → answered size s (digest any area tickets) ≡ 0
-        → Digests size s pending (digestOf size (s .work) (s .list) (s .store) (lent s any) area tickets)
+        → Digests size s pending area tickets (digestOf size (s .work) (s .list) (s .store) (lent s any) area tickets)
     digests-as-document-01-says any area tickets e =
         let ok : eqb (digest-verdict size q s h any area tickets) 0 ≡ true = eq-eqb _ _ (sym (digest-answers-its-verdict size q s h any area tickets) ∙ e) in
         rw (accepted-digest-is size q s h any area tickets ok)
         (record {
           leaves = digest-leaves-are-read-back size q s h any area tickets ∙ ap (leavesBy (separatorOf (s .work)) (cutoffOf (s .work))) cut-as-written;
           reply = ap (λ (c : Cut). digestReplyBy (c .left) (length (c .leaves)) (s .work .cutoff)) cut-as-written;
+          pages = ap (λ (c : Cut). overwrite (pagesOf size (leavesBy (separatorOf (s .work)) (cutoffOf (s .work)) c)) area) cut-as-written;
+          packed = ap (λ (c : Cut). overwrite (ticketsOf (leavesBy (separatorOf (s .work)) (cutoffOf (s .work)) c)) tickets) cut-as-written;
           turn = ap (λ (c : Cut). turnNumber (turnAfter (c .left))) cut-as-written;
+          override =
+              override-is-kept (separatorOf (s .work)) (plan size (cutoffOf (s .work)) pending .leaves) (plan size (cutoffOf (s .work)) pending .left)
+              ∙ ap (λ (c : Cut). overrideAfter (separatorOf (s .work)) (c .leaves) (c .left)) cut-as-written;
+          floor = ap (λ (c : Cut). floorAfter (s .work .floor) (cutoffOf (s .work)) (c .left)) cut-as-written;
         })
 
     claim-holds-of-a-reached-state : Claim size s

@@ -13,14 +13,14 @@ use Rattle.leaf_node.specs.Page.{records}
 use Rattle.leaf_node.specs.Fits.{All}
 use Rattle.leaf_model.specs.Basics.{nonempty}
 use Rattle.leaf_model.specs.Cut.{Cut, cutAsWritten}
-use Rattle.leaf_model.specs.Work.{Leaf, belowCutoff, lightChange, finished, turnAfter, lastKey}
+use Rattle.leaf_model.specs.Work.{Leaf, belowCutoff, lightChange, finished, turnAfter, overrideAfter, floorAfter, lastKey}
 use Rattle.leaf_model.specs.Claim.{Lt, Le, Rising, recordsOf}
 use Rattle.leaf_work.specs.Tests.{isSet, keyIf}
-use Rattle.leaf_work.specs.Lent.{turnNumber, isOpen, isWaiting, cutoffOf, separatorOf}
+use Rattle.leaf_work.specs.Lent.{turnNumber, isOpen, isWaiting, cutoffOf, overrideOf, separatorOf}
 use Rattle.leaf_work.specs.Sound.{letsIn}
 use Rattle.leaf_work.specs.Verdict.{unless, first, baseVerdict, hasPages, reaches, Opening, with-base, with-none}
 use Rattle.leaf_work.specs.Outcome.{twinOf}
-use Rattle.leaf_work.specs.Digest.{leavesBy, digestReplyBy, Digested, digestOf}
+use Rattle.leaf_work.specs.Digest.{pagesOf, ticketsOf, overwrite, leavesBy, digestReplyBy, Digested, digestOf}
 use Rattle.leaf_claim.specs.Sequence.{Call, ingest, digest, next-base, remove-cutoff, State, lent, changed, givenBy, answered, leavesOf, Answers}
 
 -- ---- the calls that can be made: keys have 32 bytes
@@ -62,13 +62,25 @@ tableSays size s pending remove-cutoff = unless outOfTurn (isWaiting (s .work)) 
 abbrev pub stepsSay : ℕ → State → List Record → Cut
 stepsSay size s pending = finished size (cutoffOf (s .work)) (cutAsWritten size pending)
 
--- what a digest that is accepted leaves
-pub record Digests (size : ℕ) (s : State) (pending : List Record) (r : Digested) : Type 0 where
+-- step 5: those leaves with their separators and cutoffs
+abbrev pub leavesSaid : ℕ → State → List Record → List Leaf
+leavesSaid size s pending = leavesBy (separatorOf (s .work)) (cutoffOf (s .work)) (stepsSay size s pending)
+
+-- what a digest that is accepted leaves, with area and tickets lent
+pub record Digests (size : ℕ) (s : State) (pending : List Record) (area tickets : List ℕ) (r : Digested) : Type 0 where
   -- the leaves with their tickets, read from area and tickets
-  pub leaves : leavesOf size (givenBy (r .reply) (r .area) (r .tickets)) ≡ leavesBy (separatorOf (s .work)) (cutoffOf (s .work)) (stepsSay size s pending)
+  pub leaves : leavesOf size (givenBy (r .reply) (r .area) (r .tickets)) ≡ leavesSaid size s pending
+  -- "Each leaf goes into the lent area as one page, in order, and gets a ticket in a second buffer, packed"; "Later bytes of both buffers keep
+  -- what they held."
+  pub pages : r .area ≡ overwrite (pagesOf size (leavesSaid size s pending)) area
+  pub packed : r .tickets ≡ overwrite (ticketsOf (leavesSaid size s pending)) tickets
   -- "how many leaves it gave, and done, or the cutoff for which it waits"
   pub reply : r .reply ≡ digestReplyBy (stepsSay size s pending .left) (length (stepsSay size s pending .leaves)) (s .work .cutoff)
   pub turn : r .work .turn ≡ turnNumber (turnAfter (stepsSay size s pending .left))
+  -- "the override becomes the base's separator if there was none"; "that is the override for those records"; "Done clears the override."
+  pub override : overrideOf (r .work) ≡ overrideAfter (separatorOf (s .work)) (stepsSay size s pending .leaves) (stepsSay size s pending .left)
+  -- "after a merge request at or above the cutoff it named"
+  pub floor : r .work .floor ≡ floorAfter (s .work .floor) (cutoffOf (s .work)) (stepsSay size s pending .left)
 
 -- ---- what is due of a leaf
 
@@ -96,7 +108,7 @@ pub record Claim (size : ℕ) (s : State) : Type 0 where
   pub refusals : (x : Call) → answered size s x ≡ tableSays size s pending x
   -- "every accepted digest gives the leaves, tickets and turn of the five steps"
   pub digests : (any area tickets : List ℕ) → answered size s (digest any area tickets) ≡ accepted
-      → Digests size s pending (digestOf size (s .work) (s .list) (s .store) (lent s any) area tickets)
+      → Digests size s pending area tickets (digestOf size (s .work) (s .list) (s .store) (lent s any) area tickets)
   -- "a leaf's body is at most 4,094, at least 2,047 unless it has no cutoff"
   pub bodies : All (BodyRight size) (leavesOf size (s .given))
   -- "its separator is at or below its first key, its cutoff above its last"
