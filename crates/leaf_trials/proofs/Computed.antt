@@ -40,6 +40,13 @@ the-starred-trials-hold = record {
   merge-of-2046 = refl;
   two-before-a-base = refl;
   body-4092 = refl;
+  all-4092 = refl;
+  all-4095 = refl;
+  all-5464 = refl;
+  all-6830 = refl;
+  all-7404 = refl;
+  all-2047 = refl;
+  all-2046 = refl;
 }
 
 pub the-other-trials-hold : OtherTrials

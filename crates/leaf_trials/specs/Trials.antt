@@ -1,4 +1,4 @@
--- Document 01, "Bench trials (marked * are the proved table)". Each of the starred ones goes through the calls: opening, ingests, and a digest that is lent just the
+-- Document 01, "Bench trials (marked * are the proved table)". Each of the starred ones but those of `separate` goes through the calls: opening, ingests, and a digest that is lent just the
 -- pages that it asks for, filled with 9, and 65 ticket bytes a page.
 use mathlib.Core.Path.{_≡_}
 use mathlib.Core.Bool.{Bool, true, false}
@@ -141,6 +141,14 @@ pub record Trials : Type 0 where
   pub two-before-a-base : puts 4 (base (recordsFrom 10 (1330 ∷ 1330 ∷ 1330 ∷ []))) (recordsFrom 1 (1332 ∷ 1332 ∷ []))
       ≡ twoLeaves 4 (recordsFrom 1 (1332 ∷ 1332 ∷ [])) (keyOf 8) (recordsFrom 10 (1330 ∷ 1330 ∷ 1330 ∷ []))
   pub body-4092 : body (recordsFrom 10 (1330 ∷ 1330 ∷ 1330 ∷ [])) ≡ 4092
+  -- "Record bodies in brackets": of all that is put
+  pub all-4092 : body (recordsFrom 1 (1330 ∷ 1330 ∷ 1330 ∷ [])) ≡ 4092
+  pub all-4095 : body (recordsFrom 1 (1331 ∷ 1331 ∷ 1331 ∷ [])) ≡ 4095
+  pub all-5464 : body (recordsFrom 1 (1332 ∷ 1332 ∷ 1332 ∷ 1332 ∷ [])) ≡ 5464
+  pub all-6830 : body (recordsFrom 1 (1332 ∷ 1332 ∷ 1332 ∷ 1332 ∷ 1332 ∷ [])) ≡ 6830
+  pub all-7404 : body (recordsFrom 1 (1200 ∷ 1200 ∷ 1200 ∷ 1200 ∷ 1200 ∷ 1200 ∷ [])) ≡ 7404
+  pub all-2047 : body (recordsFrom 1 (989 ∷ 990 ∷ [])) ≡ 2047
+  pub all-2046 : body (recordsFrom 1 (989 ∷ 989 ∷ [])) ≡ 2046
 
 -- ---- the trials without a star
 
