@@ -7,7 +7,7 @@ use Prim.Native.Nat.{ℕ}
 use Rattle.leaf_node.specs.Limits.{PageSize}
 use Rattle.leaf_model.specs.Work.{Base, Call, Ingest, Digest, NextBase, RemoveCutoff, allowed}
 use Rattle.leaf_model.specs.Tally.{Run, Try, taken, step, steps, opened, goodOpening}
-use Rattle.leaf_model.specs.Claim.{Claim}
+use Rattle.leaf_model.specs.Claim.{RecordsClaim}
 use Rattle.leaf_model.proofs.Tests.{and-right}
 use Rattle.leaf_model.proofs.Separators.{linked-leaf-ends-where-the-next-starts}
 use Rattle.leaf_model.proofs.Invariant.{Invariant, ingest-keeps-the-invariant, digest-keeps-the-invariant}
@@ -17,7 +17,7 @@ module _ (size : ℕ) where
   abbrev pub RunInvariant : Run → Type 0
   RunInvariant s = Invariant size (s .work) (s .leaves) (s .tally)
 
-  pub claim-follows-from-the-invariant : (s : Run) → RunInvariant s → Claim size s
+  pub claim-follows-from-the-invariant : (s : Run) → RunInvariant s → RecordsClaim size s
   claim-follows-from-the-invariant s h =
       record { tally = h .tally; rising = h .rising; leaves = h .leaves; linked = λ xs ys x y e. linked-leaf-ends-where-the-next-starts xs ys x y (rw e at (h .links)) }
 
@@ -39,5 +39,5 @@ module _ (size : ℕ) where
     steps-keep-the-invariant [] s h = h
     steps-keep-the-invariant (c ∷ cs) s h = steps-keep-the-invariant cs (step size s c) (step-keeps-the-invariant s c h)
 
-    pub claim-holds-of-every-sequence : (o : Option Base) → goodOpening size o ≡ true → (cs : List Try) → Claim size (steps size (opened o) cs)
-    claim-holds-of-every-sequence o ok cs = claim-follows-from-the-invariant _ (steps-keep-the-invariant cs (opened o) (opening-has-the-invariant size o ok))
+    pub records-claim-holds-of-every-sequence : (o : Option Base) → goodOpening size o ≡ true → (cs : List Try) → RecordsClaim size (steps size (opened o) cs)
+    records-claim-holds-of-every-sequence o ok cs = claim-follows-from-the-invariant _ (steps-keep-the-invariant cs (opened o) (opening-has-the-invariant size o ok))

@@ -1,4 +1,4 @@
--- What is claimed of a sequence of calls: demand 3, over records.
+-- What is claimed of a sequence of calls over records: demand 3 as far as it speaks of leaves and the tally. Refusals and the digest's steps are in leaf_claim.
 use mathlib.Core.Path.{_≡_}
 use mathlib.Core.Bool.{true}
 use mathlib.Core.Option.{some}
@@ -37,7 +37,7 @@ pub record LeafGood (size : ℕ) (l : Leaf) : Type 0 where
   pub first : All (λ r. Le (l .separator) (r .key)) (l .records)
   pub last : (c : List ℕ) → l .cutoff ≡ some c → Lt (lastKey (l .records)) c
 
-pub record Claim (size : ℕ) (s : Run) : Type 0 where
+pub record RecordsClaim (size : ℕ) (s : Run) : Type 0 where
   -- leaves given out and pending records are the tally, in order
   pub tally : recordsOf (s .leaves) ++ pending (s .work) ≡ s .tally
   pub rising : Rising (s .tally)

@@ -55,7 +55,7 @@ takeUntil limit target leaf (r ∷ rs) = elim (ltb limit (body leaf + cost r)) [
 ]
 
 -- Leaf after leaf. "Cutting stops when the remaining records don't reach the target and none overfills."
--- At most `n` leaves; each takes a record at least, so the number of records is enough.
+-- At most `n` leaves; where no value is longer than a page takes, each has a record, so the number of records is enough.
 unfoldable pub takeLeaves : ℕ → ℕ → ℕ → List Record → Cut
 takeLeaves zero limit target rs = nothingCut rs
 takeLeaves (suc n) limit target rs = elim (takeUntil limit target [] rs) [

@@ -21,7 +21,7 @@ abbrev pub placeAll : List Record → List Record → List Record
 placeAll [] t = t
 placeAll (r ∷ rs) t = place r (placeAll rs t)
 
--- "Next base: the new page's records go behind." "Digest, cutoff removal, any refused call: no change."
+-- "Next base: the new page's records go behind." "Digest, cutoff removal [..]: no change." `step` has the refused calls.
 abbrev pub tallied : Call → List Record → List Record
 tallied (Ingest k c) t = placeAll (inserted k c) (strike k t)
 tallied Digest t = t
