@@ -29,7 +29,7 @@ bytesOf (suc n) v = v / 256 ^ n ∷ bytesOf n (v % 256 ^ n)
 unfoldable pub ltKey : List ℕ → List ℕ → Bool
 ltKey a b = ltb (num a) (num b)
 
--- a and b are one key
+-- a and b are one key: they spell one number
 unfoldable pub eqKey : List ℕ → List ℕ → Bool
 eqKey a b = eqb (num a) (num b)
 

@@ -28,7 +28,7 @@ pub record Rest (page : List ℕ) (n low : ℕ) : Type 0 where
   pub few : n ≤ 32767
   pub short : length page ≤ 32767
 
--- a chunk has more than `skip` records
+-- a chunk has at least `skip` records
 pub record SkipIn (row : List ℕ) (skip : ℕ) : Type 0 where
   pub chunk : (getD row 0 0 ≡ 1 → ⊥) → getD row 2 0 + skip ≤ getD row 3 0
 

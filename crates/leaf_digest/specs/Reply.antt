@@ -1,4 +1,4 @@
--- The answer of a digest, as the definition has it.
+-- Document 01, "A work and its turns": the answer of a digest, as the definition has it.
 use mathlib.Core.List.{List}
 use Prim.Native.Nat.{ℕ}
 use Rattle.leaf_model.specs.Work.{zeroKey}

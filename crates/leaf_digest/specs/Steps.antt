@@ -20,7 +20,7 @@ use Rattle.leaf_merge.specs.Keeping.{RoomToKeep}
 use Rattle.leaf_digest.specs.declared.Digested.{Digested}
 use Rattle.leaf_digest.specs.Reply.{replyOf, cutoffBeside}
 
--- Nos. 1 to 8 of what is lent beside the page came to this number
+-- the number that Nos. 1 to 8 come to for this work and page, with some list and store
 pub record Judged (size : ℕ) (w : Work) (page : List ℕ) (lent : ℕ) : Type 0 where
   pub list : List Entry
   pub store : List ℕ

@@ -92,7 +92,7 @@ roomVerdict w z n added len entries bytes =
 unfoldable pub stepVerdict : ℕ → Work → Kept → ℕ → List ℕ → ℕ → ℕ → ℕ → ℕ → ℕ
 stepVerdict size w z n k added len entries bytes = keyVerdict size w k len (roomVerdict w z n added len entries bytes)
 
--- what an ingest is admitted by: a work with its base
+-- what an ingest's number is found from: a work that passed Nos. 1 to 8, with its base
 pub record Admits (size : ℕ) (w : Work) (page : List ℕ) : Type 0 where
   pub sized : PageSize size
   pub regardable : Regardable size page

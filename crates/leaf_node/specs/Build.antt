@@ -1,4 +1,4 @@
--- The page that a list of records makes, and what pushing records into a lent page does to it.
+-- Document 01, "The page", the other way round: the page that a list of records makes, and what pushing records into a lent page does to it.
 use Prim.Native.Nat.{ℕ, _+_, _-_, _/_, _%_}
 use mathlib.Core.Bool.{Bool, cond}
 use mathlib.Core.List.{List, [], _∷_, _++_}
@@ -28,7 +28,7 @@ build size rs =
     let first : ℕ = size - total rs in
     le16 (length rs) ++ (pointers first rs ++ (zeros (first - pointer (length rs)) ++ values rs))
 
--- a page with zeros in the gap between its pointers and its first value
+-- "Built pages hold zeros in the gap before the first value": a page with its gap zeroed
 unfoldable pub cleared : List ℕ → List ℕ
 cleared p = take (pointer (count p)) p ++ (zeros (start p 0 - pointer (count p)) ++ drop (start p 0) p)
 

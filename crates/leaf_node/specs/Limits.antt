@@ -20,7 +20,7 @@ unfoldable pub valueLimit : ℕ → ℕ
 unfolding bodyLimit
 valueLimit size = bodyLimit size / 3 - 32
 
--- a leaf with a cutoff and a smaller body asks for a merge (2,047)
+-- records that are left with a smaller body wait for a merge, where there is a cutoff (2,047)
 unfoldable pub mergeBelow : ℕ → ℕ
 unfolding bodyLimit
 mergeBelow size = bodyLimit size / 2

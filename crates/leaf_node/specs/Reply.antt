@@ -1,4 +1,4 @@
--- What the calls that read a page answer. A refused call answers its number alone.
+-- Document 01, "The three modules", No. 2: what the calls that read a page answer. A refused call answers its number alone.
 use Prim.Native.Nat.{ℕ}
 use mathlib.Core.Bool.{cond}
 use mathlib.Core.List.{List}

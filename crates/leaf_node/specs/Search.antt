@@ -1,4 +1,4 @@
--- The one key search of a page.
+-- Document 01, "The three modules", No. 2, `get`: the one key search of a page.
 use Prim.Native.Nat.{ℕ, zero, suc, _-_}
 use mathlib.Core.Bool.{true, false, cond, _&&_}
 use mathlib.Core.List.{List}

@@ -12,7 +12,7 @@ use Rattle.leaf_passed.specs.declared.Passing.{Passing}
 use Rattle.leaf_passed.specs.declared.Unused.{Unused}
 use Rattle.leaf_passed.specs.Passed.{withPass}
 
--- of the number that a work uses and that of its list: the used entries of the list
+-- the lesser of two numbers: of the entries that a work says it uses and those that its list has, the ones that are there
 unfoldable pub lesserOf : ℕ → ℕ → ℕ
 lesserOf a b = oneOf (ltb a b) a b
 

@@ -1,3 +1,4 @@
+-- Document 01, "To the testers": "Each call's contract settles reply, work record and every lent byte from the inputs, refused calls as well".
 -- What the calls on a work answer and leave, in terms of the definitions that the claim speaks of: the contracts' own words. Primes are what
 -- is there after the call.
 use mathlib.Core.Path.{_≡_}

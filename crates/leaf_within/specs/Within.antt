@@ -29,7 +29,7 @@ atMost entries = oneOf (leb entries mostEntries) entries mostEntries
 abbrev pub splitCount : Work → ℕ → ℕ
 splitCount w entries = lesserOf (w .used) (atMost entries)
 
--- how many rows are enough for what a digest keeps: without a cutoff that is nothing, else the records' body is under 2,047
+-- how many rows are enough for what a digest keeps: without a cutoff nothing, but a list has a row; else records with a body under 2,047, 34 bytes each and more
 unfoldable pub keptRoom : Work → ℕ
 keptRoom w = oneOf (isSet (w .cut)) 60 1
 

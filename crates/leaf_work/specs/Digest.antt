@@ -58,7 +58,7 @@ abbrev pub insertsOf : ℕ → List Record → List Entry
 insertsOf at [] = []
 insertsOf at (r ∷ rs) = insertAt at (at + length (r .value)) (r .key) (bit (r .flag)) ∷ insertsOf (at + length (r .value)) rs
 
--- the five steps of document 01, by what is cut and kept, the current separator and the cutoff
+-- step 5: the leaves with their separators and cutoffs, by what steps 1 to 4 cut and keep, the current separator and the cutoff
 abbrev pub leavesBy : List ℕ → Option (List ℕ) → Cut → List Leaf
 leavesBy separator cutoff p = withSeparators separator cutoff (nonempty (p .left)) (p .leaves) (p .left)
 

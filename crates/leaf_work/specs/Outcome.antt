@@ -1,4 +1,4 @@
--- The calls but digest: the reply, and every lent byte after the call. A refused call leaves all as it was, and its reply is its number.
+-- Document 01, "A work and its turns" and "Room and soundness": the calls but digest, the reply, and every lent byte after the call. A refused call leaves all as it was, and its reply is its number.
 use mathlib.Core.Bool.{Bool, true, false}
 use mathlib.Core.Option.{Option}
 use mathlib.Core.List.{List, [], _∷_, _++_}
@@ -90,6 +90,7 @@ module _ (size : ℕ) (w : Work) (list : List Entry) (store page k : List ℕ) (
   abbrev pub reportOf : IngestReply
   reportOf = elim (reports w page k) [ true ↦ Reported (start page (stop w page k)) (lengthAt page (stop w page k)) | false ↦ Quiet ]
 
+  -- "Base records below the key become pending; an equal one is dropped; the new one is pending behind them." The key is the last one taken.
   abbrev pub ingestWork : Work
   ingestWork = record {
     turn = w .turn;
@@ -136,6 +137,7 @@ pub record Changed : Type 0 where
 abbrev pub changedBy : ℕ → Work → Work → Changed
 changedBy verdict w after = elim (eqb verdict accepted) [ true ↦ record { reply = Accepted; work = after } | false ↦ record { reply = Refused verdict; work = w } ]
 
+-- "Next base": what is pending and the override stay; the new separator is the latest, and the floor
 abbrev pub nextBaseWork : Work → List ℕ → Bool → List ℕ → Work
 nextBaseWork w separator cut cutoff = record {
   turn = turnNumber Open;
@@ -159,7 +161,7 @@ unfoldable pub nextBaseOf : ℕ → Work → List Entry → List ℕ → List �
 nextBaseOf size w list store page separator cut cutoff =
     changedBy (nextBaseVerdict size w list store page separator (keyIf cut cutoff)) w (nextBaseWork w separator cut cutoff)
 
--- "the work is open again with no base"
+-- "the work is open again with no base"; the latest separator and the floor stay
 abbrev pub removeWork : Work → Work
 removeWork w = record {
   turn = turnNumber Open;

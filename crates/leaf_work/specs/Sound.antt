@@ -18,7 +18,7 @@ use Rattle.leaf_work.specs.Pending.{listedOf, restOf, pendingOf}
 
 -- ---- entries
 
--- turn, kinds and flags are numbers, since any bytes may be lent: one that isn't listed is unsound
+-- turn, kinds and flags are numbers, since any bytes may be lent: any other number than those named here is unsound
 abbrev pub isFlag : ℕ → Bool
 isFlag n = leb n 1
 

@@ -1,1 +1,2 @@
+-- The refusal numbers, for the definitions.
 pub mod Refusal
