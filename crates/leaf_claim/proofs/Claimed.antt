@@ -13,7 +13,7 @@ use Rattle.leaf_node.specs.Record.{Record}
 use Rattle.leaf_node.specs.Fits.{All, cons}
 use Rattle.leaf_model.specs.Basics.{nonempty}
 use Rattle.leaf_model.specs.Cut.{Cut}
-use Rattle.leaf_model.specs.Work.{Change, zeroKey, plan, finished, turnAfter, separatorAfter, overrideAfter, floorAfter}
+use Rattle.leaf_model.specs.Work.{Change, zeroKey, plan, finished, turnAfter, separatorAfter, overrideAfter, floorAfter, leavesBy}
 use Rattle.leaf_model.proofs.Lists.{all-map}
 use Rattle.leaf_model.proofs.AsThePaperSays.{cutting-as-the-paper-says}
 use Rattle.leaf_model.proofs.Separators.{linked-leaf-ends-where-the-next-starts}
@@ -24,7 +24,7 @@ use Rattle.leaf_work.specs.Lent.{turnNumber, cutoffOf, separatorOf, readsBase, 
 use Rattle.leaf_work.specs.Pending.{listedOf, restOf, pendingOf}
 use Rattle.leaf_work.specs.Verdict.{Opening, openVerdict, lentVerdict}
 use Rattle.leaf_work.specs.Outcome.{replyNumber, openOf, ingestOf, nextBaseOf, removeCutoffOf}
-use Rattle.leaf_work.specs.Digest.{digestNumber, Digested, pagesOf, ticketsOf, overwrite, leavesBy, digestReplyBy, digestOf}
+use Rattle.leaf_work.specs.Digest.{digestNumber, Digested, pagesOf, ticketsOf, overwrite, digestReplyBy, digestOf}
 use Rattle.leaf_work.proofs.Laid.{Keyed, list-length, store-length, pending-parts}
 use Rattle.leaf_work.proofs.PendingRecords.{EntryKeyed}
 use Rattle.leaf_work.proofs.Canonical.{sound-work-is-canonical}

@@ -15,7 +15,7 @@ use Rattle.leaf_node.specs.Ticket.{readTickets}
 use Rattle.leaf_node.specs.Fits.{All, nil, cons, Keyed, Fits}
 use Rattle.leaf_model.specs.Basics.{joined, nonempty}
 use Rattle.leaf_model.specs.Cut.{Cut}
-use Rattle.leaf_model.specs.Work.{plan, planned, given, digested, workAfter}
+use Rattle.leaf_model.specs.Work.{plan, planned, given, digested, workAfter, leavesBy}
 use Rattle.leaf_model.specs.Work as model
 use Rattle.leaf_model.proofs.Tests.{and-left, and-right}
 use Rattle.leaf_model.proofs.Lists.{all-left, all-right}
@@ -25,7 +25,7 @@ use Rattle.leaf_work.specs.declared.Work.{Work}
 use Rattle.leaf_work.specs.Lent.{isOpen, cutoffOf, separatorOf, regarded}
 use Rattle.leaf_work.specs.Pending.{pendingOf}
 use Rattle.leaf_work.specs.Verdict.{hasPages, digestVerdict}
-use Rattle.leaf_work.specs.Digest.{DigestRefused, digestNumber, Digested, pagesOf, ticketsOf, overwrite, leavesBy, digestReplyBy, digestDone, digestOn, digestOf}
+use Rattle.leaf_work.specs.Digest.{DigestRefused, digestNumber, Digested, pagesOf, ticketsOf, overwrite, digestReplyBy, digestDone, digestOn, digestOf}
 use Rattle.leaf_work.proofs.Tests.{passed, first-passed}
 use Rattle.leaf_work.proofs.Operations.{puts}
 use Rattle.leaf_work.proofs.Laid.{open-turn, pending-parts, seesWork}

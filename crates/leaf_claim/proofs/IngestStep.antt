@@ -10,6 +10,7 @@ use borrow.Author.Tests.{eqb-true, leb-true, eq-eqb}
 use Rattle.leaf_node.specs.Record.{total}
 use Rattle.leaf_node.specs.Page.{start, lengthAt}
 use Rattle.leaf_model.specs.Work.{Change, Ingest, belowCutoff, lightChange, allowed}
+use Rattle.leaf_model.specs.Tally.{changed}
 use Rattle.leaf_model.specs.Claim.{Rising}
 use Rattle.leaf_model.proofs.Keys.{rising-right}
 use Rattle.leaf_model.proofs.Invariant.{ingest-keeps-the-invariant}
@@ -23,7 +24,7 @@ use Rattle.leaf_work.specs.Verdict.{ingestVerdict}
 use Rattle.leaf_work.specs.Outcome.{IngestRefused, Quiet, Reported, ingestNumber, Ingested, reportOf, ingestWork, ingestDone, ingestOn, ingestOf}
 use Rattle.leaf_work.proofs.Tests.{and-both, passed, first-passed}
 use Rattle.leaf_work.proofs.Laid.{open-turn, seesWork}
-use Rattle.leaf_claim.specs.Sequence.{State, ingest, lent, changed, answered, next, leavesOf}
+use Rattle.leaf_claim.specs.Sequence.{State, ingest, lent, answered, next, leavesOf}
 use Rattle.leaf_claim.proofs.Ingesting.{new, laid-after-ingest, model-sees-the-ingest, list-is-as-long, store-is-as-long, kept-after-ingest}
 use Rattle.leaf_claim.proofs.Reached.{Reached, equal-states-are-reached, regarded-lent, reached-state-earns-no-refusal, pending-rises}
 

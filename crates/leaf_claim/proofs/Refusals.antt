@@ -14,6 +14,7 @@ use Rattle.leaf_node.specs.Fits.{All}
 use Rattle.leaf_model.specs.Work.{Turn, Open, Waiting, Done, Change, inserted, belowCutoff, lightChange, recordsBelow, recordsAbove}
 use Rattle.leaf_model.proofs.Lists.{all-map}
 use Rattle.leaf_model.proofs.Ingesting.{Low, tally-changes-as-the-work-does}
+use Rattle.leaf_model.specs.Tally.{changed}
 use Rattle.leaf_work.specs.declared.Work.{Work}
 use Rattle.leaf_work.specs.Tests.{keyIf}
 use Rattle.leaf_work.specs.Lent.{turnNumber, isOpen, isWaiting, cutoffOf, regarded}
@@ -25,7 +26,7 @@ use Rattle.leaf_work.proofs.Operations.{recordsOfOps, total-append}
 use Rattle.leaf_work.proofs.Laid.{turnOf, ignored, an-ignored-page-has-no-records, listed-is, rest-is, pending-is, pending-parts, seesWork}
 use Rattle.leaf_work.proofs.Soundness.{listed-keys-are-past}
 use Rattle.leaf_work.proofs.Canonical.{canonical-work-is-sound}
-use Rattle.leaf_claim.specs.Sequence.{State, Call, ingest, digest, next-base, remove-cutoff, changed, answered, leavesOf}
+use Rattle.leaf_claim.specs.Sequence.{State, Call, ingest, digest, next-base, remove-cutoff, answered, leavesOf}
 use Rattle.leaf_claim.specs.Claim.{tableSays}
 use Rattle.leaf_claim.proofs.Ingesting.{count-after-ingest, bytes-after-ingest}
 use Rattle.leaf_claim.proofs.Reached.{Reached, pending-rises}

@@ -13,15 +13,16 @@ use Rattle.leaf_node.specs.Page.{records}
 use Rattle.leaf_node.specs.Fits.{All}
 use Rattle.leaf_model.specs.Basics.{nonempty}
 use Rattle.leaf_model.specs.Cut.{Cut, cutAsWritten}
-use Rattle.leaf_model.specs.Work.{Leaf, belowCutoff, lightChange, finished, turnAfter, overrideAfter, floorAfter, lastKey}
+use Rattle.leaf_model.specs.Work.{Leaf, belowCutoff, lightChange, finished, turnAfter, overrideAfter, floorAfter, lastKey, leavesBy}
+use Rattle.leaf_model.specs.Tally.{changed}
 use Rattle.leaf_model.specs.Claim.{Lt, Le, Rising, recordsOf}
 use Rattle.leaf_work.specs.Tests.{isSet, keyIf}
 use Rattle.leaf_work.specs.Lent.{turnNumber, isOpen, isWaiting, cutoffOf, overrideOf, separatorOf}
 use Rattle.leaf_work.specs.Sound.{letsIn}
 use Rattle.leaf_work.specs.Verdict.{unless, first, baseVerdict, hasPages, reaches, Opening, with-base, with-none}
 use Rattle.leaf_work.specs.Outcome.{twinOf}
-use Rattle.leaf_work.specs.Digest.{pagesOf, ticketsOf, overwrite, leavesBy, digestReplyBy, Digested, digestOf}
-use Rattle.leaf_claim.specs.Sequence.{Call, ingest, digest, next-base, remove-cutoff, State, lent, changed, givenBy, answered, leavesOf, Answers}
+use Rattle.leaf_work.specs.Digest.{pagesOf, ticketsOf, overwrite, digestReplyBy, Digested, digestOf}
+use Rattle.leaf_claim.specs.Sequence.{Call, ingest, digest, next-base, remove-cutoff, State, lent, givenBy, answered, leavesOf, Answers}
 
 -- ---- the calls that can be made: keys have 32 bytes
 

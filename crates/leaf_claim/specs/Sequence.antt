@@ -10,8 +10,8 @@ use Rattle.refusal.specs.Refusal.{accepted, noSuchIndex}
 use Rattle.leaf_node.specs.Record.{Record}
 use Rattle.leaf_node.specs.Page.{records}
 use Rattle.leaf_node.specs.Ticket.{Ticket, readTickets}
-use Rattle.leaf_model.specs.Work.{Change, Leaf, inserted, isLinked}
-use Rattle.leaf_model.specs.Tally.{strike, placeAll}
+use Rattle.leaf_model.specs.Work.{Change, Leaf, isLinked}
+use Rattle.leaf_model.specs.Tally.{changed}
 use Rattle.leaf_work.specs.declared.Work.{Work}
 use Rattle.leaf_work.specs.declared.Entry.{Entry}
 use Rattle.leaf_work.specs.Tests.{oneOf}
@@ -48,10 +48,6 @@ abbrev pub lent : State → List ℕ → List ℕ
 lent s any = oneOf (readsBase (s .work)) (s .page) any
 
 -- ---- the tally: "It is fed only the calls (key, new value and flag, or page) and whether each was refused."
-
--- "a record of that key is struck out; a new value and its flag then stand at the key's place in rising order"
-abbrev pub changed : List ℕ → Option Change → List Record → List Record
-changed k c t = placeAll (inserted k c) (strike k t)
 
 -- "Opening: the base page's records, or none."
 abbrev pub openedTally : Opening → List Record

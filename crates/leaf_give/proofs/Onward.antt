@@ -15,12 +15,12 @@ use Rattle.leaf_node.specs.Fits.{All, nil, cons, Fits}
 use Rattle.leaf_node.proofs.RoundTrips.{a-built-page-is-full-length}
 use Rattle.leaf_model.specs.Basics.{joined, nonempty}
 use Rattle.leaf_model.specs.Cut.{Cut, nothingCut}
-use Rattle.leaf_model.specs.Work.{leafCutoff, nextSeparator, separatorAfter}
+use Rattle.leaf_model.specs.Work.{leafCutoff, nextSeparator, separatorAfter, leavesBy}
 use Rattle.leaf_model.proofs.Lists.{all-append}
 use Rattle.leaf_work.specs.declared.Work.{Work}
 use Rattle.leaf_work.specs.Tests.{isSet, keyIf}
 use Rattle.leaf_work.specs.Lent.{cutoffOf, separatorOf}
-use Rattle.leaf_work.specs.Digest.{ticketsOf, overwrite, leavesBy}
+use Rattle.leaf_work.specs.Digest.{ticketsOf, overwrite}
 use Rattle.leaf_cut.specs.declared.Gauge.{Gauge}
 use Rattle.leaf_cut.specs.declared.Cursor.{Cursor}
 use Rattle.leaf_cut.specs.Records.{spanOf, firstCursor, recordsFrom}

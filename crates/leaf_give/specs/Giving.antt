@@ -9,13 +9,13 @@ use Rattle.leaf_node.specs.Record.{Record, body, total}
 use Rattle.leaf_node.specs.Page.{count, valuesSize}
 use Rattle.leaf_node.specs.Fits.{All, Keyed, Light}
 use Rattle.leaf_model.specs.Cut.{Cut}
-use Rattle.leaf_model.specs.Work.{Leaf, keysRise, plan, separatorAfter}
+use Rattle.leaf_model.specs.Work.{Leaf, keysRise, plan, separatorAfter, leavesBy}
 use Rattle.leaf_work.specs.declared.Work.{Work}
 use Rattle.leaf_work.specs.Lent.{cutoffOf, separatorOf}
 use Rattle.leaf_work.specs.Flat.{listOf}
 use Rattle.leaf_work.specs.Pending.{pendingOf}
 use Rattle.leaf_work.specs.Ready.{Ready}
-use Rattle.leaf_work.specs.Digest.{pagesOf, ticketsOf, overwrite, leavesBy}
+use Rattle.leaf_work.specs.Digest.{pagesOf, ticketsOf, overwrite}
 use Rattle.leaf_cut.specs.Records.{spanOf, recordsFrom}
 use Rattle.leaf_cut.specs.Steps.{CursorIn}
 use Rattle.leaf_give.specs.declared.Progress.{Progress}

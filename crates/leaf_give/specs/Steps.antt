@@ -11,11 +11,11 @@ use Rattle.leaf_node.specs.Ticket.{packedWith}
 use Rattle.leaf_node.specs.Fits.{All, Fits}
 use Rattle.leaf_model.specs.Basics.{joined}
 use Rattle.leaf_model.specs.Cut.{Cut}
-use Rattle.leaf_model.specs.Work.{leafCutoff, nextSeparator, keysRise, separatorAfter}
+use Rattle.leaf_model.specs.Work.{leafCutoff, nextSeparator, keysRise, separatorAfter, leavesBy}
 use Rattle.leaf_work.specs.declared.Work.{Work}
 use Rattle.leaf_work.specs.Tests.{oneOf}
 use Rattle.leaf_work.specs.Lent.{cutoffOf, separatorOf}
-use Rattle.leaf_work.specs.Digest.{ticketsOf, overwrite, leavesBy}
+use Rattle.leaf_work.specs.Digest.{ticketsOf, overwrite}
 use Rattle.leaf_cut.specs.declared.Gauge.{Gauge}
 use Rattle.leaf_cut.specs.declared.Span.{Span}
 use Rattle.leaf_cut.specs.declared.Cursor.{Cursor}

@@ -5,7 +5,7 @@ use mathlib.Core.List.{List, [], _∷_, _++_}
 use Prim.Native.Nat.{ℕ}
 use Rattle.bit_ops.specs.Key.{ltKey, eqKey}
 use Rattle.leaf_node.specs.Record.{Record}
-use Rattle.leaf_model.specs.Work.{Open, Work, Leaf, Base, Call, Ingest, Digest, NextBase, RemoveCutoff, zeroKey, inserted, goodBase, allowed, effect, gives}
+use Rattle.leaf_model.specs.Work.{Open, Work, Leaf, Base, Change, Call, Ingest, Digest, NextBase, RemoveCutoff, zeroKey, inserted, goodBase, allowed, effect, gives}
 
 -- "a record of that key is struck out"
 abbrev pub strike : List ℕ → List Record → List Record
@@ -21,9 +21,13 @@ abbrev pub placeAll : List Record → List Record → List Record
 placeAll [] t = t
 placeAll (r ∷ rs) t = place r (placeAll rs t)
 
+-- "Ingest: a record of that key is struck out; a new value and its flag then stand at the key's place in rising order."
+abbrev pub changed : List ℕ → Option Change → List Record → List Record
+changed k c t = placeAll (inserted k c) (strike k t)
+
 -- "Next base: the new page's records go behind." "Digest, cutoff removal [..]: no change." `step` has the refused calls.
 abbrev pub tallied : Call → List Record → List Record
-tallied (Ingest k c) t = placeAll (inserted k c) (strike k t)
+tallied (Ingest k c) t = changed k c t
 tallied Digest t = t
 tallied (NextBase b) t = t ++ b .records
 tallied RemoveCutoff t = t

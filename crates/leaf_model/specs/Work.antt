@@ -187,9 +187,13 @@ abbrev pub floorAfter : List ℕ → Option (List ℕ) → List Record → List 
 floorAfter floor cutoff [] = floor
 floorAfter floor cutoff (r ∷ rs) = orElse cutoff floor
 
+-- step 5: the leaves with their separators and cutoffs, by what steps 1 to 4 cut and keep, the current separator and the cutoff
+abbrev pub leavesBy : List ℕ → Option (List ℕ) → Cut → List Leaf
+leavesBy separator cutoff p = withSeparators separator cutoff (nonempty (p .left)) (p .leaves) (p .left)
+
 -- the leaves that a digest gives, and the work after it, by what it cuts and keeps
 abbrev pub leavesOf : Work → Cut → List Leaf
-leavesOf w c = withSeparators (current w) (w .cutoff) (nonempty (c .left)) (c .leaves) (c .left)
+leavesOf w c = leavesBy (current w) (w .cutoff) c
 
 abbrev pub workAfter : Work → Cut → Work
 workAfter w c = record {

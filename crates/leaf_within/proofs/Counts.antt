@@ -5,9 +5,10 @@ use mathlib.Core.Option.{some}
 use mathlib.Core.List.{List, [], _∷_}
 use Prim.Native.Nat.{ℕ, _+_, _≤_, _<_}
 use native.Mathlib.Omega.{arith}
-use lib.Dec.{ltb, leb}
+use native.Mathlib.Decide.{decLt}
+use lib.Dec.{ltb}
 use lib.ListN.{length}
-use borrow.Author.Tests.{eq-eqb, ne-eqb, le-leb, lt-leb, leb-true, leb-false}
+use borrow.Author.Tests.{eq-eqb, ne-eqb}
 use Rattle.leaf_node.specs.Limits.{mergeBelow}
 use Rattle.leaf_node.specs.Record.{Record, body}
 use Rattle.leaf_node.proofs.Limits.{merge-limit-of-4096}
@@ -67,20 +68,14 @@ module _ (w : Work) where
 
 module _ (entries : ℕ) where
   pub a-short-list-is-all-there : entries ≤ 4096 → entries ≡ atMost entries
-  unfolding atMost
-  a-short-list-is-all-there h = rw (le-leb entries 4096 h)
-
-  pub a-long-list-is-there-in-part : 4096 < entries → 4096 ≡ atMost entries
-  unfolding atMost
-  a-long-list-is-there-in-part h = rw (lt-leb entries 4096 h)
+  a-short-list-is-all-there h =
+      let b = lesser-bounds entries mostEntries in
+      elim (decLt (atMost entries) mostEntries) [ yes l ↦ omega (arith, b .2 l) | no l ↦ omega (arith, h, l, b .0, b .1) ]
 
   pub no-more-than-there-is : (atMost entries ≤ entries) × (atMost entries ≤ 4096) × (atMost entries < entries → atMost entries ≡ 4096)
-  unfolding atMost
-  no-more-than-there-is = go (leb entries mostEntries) refl
-    where
-      go : (t : Bool) → leb entries mostEntries ≡ t → (oneOf t entries mostEntries ≤ entries) × (oneOf t entries mostEntries ≤ 4096) × (oneOf t entries mostEntries < entries → oneOf t entries mostEntries ≡ 4096)
-      go true e = (omega arith, leb-true entries mostEntries e, λ h. absurd (omega (arith, h)))
-      go false e = let l = leb-false entries mostEntries e in (omega (arith, l), omega arith, λ _. refl)
+  no-more-than-there-is =
+      let b = lesser-bounds entries mostEntries in
+      (b .1, b .0, λ h. elim (decLt (atMost entries) mostEntries) [ yes l ↦ absurd (omega (arith, b .2 l, h)) | no l ↦ omega (arith, l, b .0) ])
 
   module _ (w : Work) where
     -- both numbers are bounds of the room, and nothing else is

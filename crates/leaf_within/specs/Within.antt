@@ -3,7 +3,6 @@ use mathlib.Core.Path.{_≡_}
 use mathlib.Core.Bool.{true, false}
 use mathlib.Core.List.{List, map}
 use Prim.Native.Nat.{ℕ, _+_, _≤_}
-use lib.Dec.{leb}
 use lib.ListN.{length, take}
 use Rattle.leaf_work.specs.declared.Work.{Work}
 use Rattle.leaf_work.specs.declared.Entry.{Entry}
@@ -22,8 +21,8 @@ use Rattle.leaf_within.specs.Reply.{gaveOut}
 -- ---- counts
 
 -- a list's entries, and no more than a work takes
-unfoldable pub atMost : ℕ → ℕ
-atMost entries = oneOf (leb entries mostEntries) entries mostEntries
+abbrev pub atMost : ℕ → ℕ
+atMost entries = lesserOf entries mostEntries
 
 -- the used ones among them
 abbrev pub splitCount : Work → ℕ → ℕ

@@ -31,7 +31,7 @@ ghost use Rattle.leaf_passed.specs.declared.Unused as declared-unused;
 ghost use Rattle.leaf_passed.specs.Passed.{PassingOn, passedOver};
 ghost use Rattle.leaf_digest.specs.Reply as gave;
 ghost use Rattle.leaf_within.specs.Reply.{gaveOut};
-ghost use Rattle.leaf_within.specs.Within.{atMost, splitCount, keptRoom, roomNeeded, SplitFrom, SplitOver, Accepted, stepOf, Gathers};
+ghost use Rattle.leaf_within.specs.Within.{splitCount, keptRoom, roomNeeded, SplitFrom, SplitOver, Accepted, stepOf, Gathers};
 
 // A digest's answer: 0 or the refusal, whether it waits for a merge, 1 or 0, how many leaves it gave, and the cutoff for which it waits,
 // else zeros.
@@ -52,16 +52,6 @@ pub struct DigestStep {
 
 // ---- counts
 
-// How many entries a list has, and no more than a work takes.
-fn at_most(entries: usize) -> usize
-    ensures { λ r. ⌜ (r ≡ atMost entries) × (r ≤ 4096) ⌝ }
-{
-    if entries <= MOST_ENTRIES {
-        return entries;
-    }
-    MOST_ENTRIES
-}
-
 // How many rows are enough for what a digest keeps. The pointers alone of 61 records have a body of 2,074, which is a leaf; without a cutoff
 // nothing is kept, and one row is there because no list is empty.
 pub fn kept_room(work: Work) -> usize
@@ -78,7 +68,7 @@ pub fn kept_room(work: Work) -> usize
 pub fn room_needed(work: Work, entries: usize) -> usize
     ensures { λ r. ⌜ (r ≡ roomNeeded work entries) × (r ≤ 4096) ⌝ }
 {
-    let all = at_most(entries);
+    let all = lesser(entries, MOST_ENTRIES);
     if MOST_ENTRIES < work.used {
         return all;
     }
@@ -89,7 +79,7 @@ pub fn room_needed(work: Work, entries: usize) -> usize
 pub fn split_count(work: Work, entries: usize) -> usize
     ensures { λ r. ⌜ (r ≡ splitCount work entries) × (r ≤ entries) × (r ≤ roomNeeded work entries) ⌝ }
 {
-    lesser(work.used, at_most(entries))
+    lesser(work.used, lesser(entries, MOST_ENTRIES))
 }
 
 // ---- the number

@@ -12,7 +12,7 @@ use Rattle.leaf_node.specs.Build.{build}
 use Rattle.leaf_node.specs.Ticket.{Ticket, packedAll}
 use Rattle.leaf_model.specs.Basics.{joined, nonempty}
 use Rattle.leaf_model.specs.Cut.{Cut}
-use Rattle.leaf_model.specs.Work.{Leaf, zeroKey, plan, withSeparators, separatorAfter, floorAfter, turnAfter}
+use Rattle.leaf_model.specs.Work.{Leaf, zeroKey, plan, leavesBy, separatorAfter, floorAfter, turnAfter}
 use Rattle.leaf_work.specs.declared.Work.{Work}
 use Rattle.leaf_work.specs.declared.Entry.{Entry}
 use Rattle.leaf_work.specs.Tests.{oneOf, bit}
@@ -57,10 +57,6 @@ overwrite new old = new ++ drop (length new) old
 abbrev pub insertsOf : ℕ → List Record → List Entry
 insertsOf at [] = []
 insertsOf at (r ∷ rs) = insertAt at (at + length (r .value)) (r .key) (bit (r .flag)) ∷ insertsOf (at + length (r .value)) rs
-
--- step 5: the leaves with their separators and cutoffs, by what steps 1 to 4 cut and keep, the current separator and the cutoff
-abbrev pub leavesBy : List ℕ → Option (List ℕ) → Cut → List Leaf
-leavesBy separator cutoff p = withSeparators separator cutoff (nonempty (p .left)) (p .leaves) (p .left)
 
 abbrev pub digestReplyBy : List Record → ℕ → List ℕ → DigestReply
 digestReplyBy [] leaves cutoff = Finished leaves
