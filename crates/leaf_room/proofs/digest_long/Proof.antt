@@ -3,6 +3,7 @@
 -- Assumes nothing.
 use mathlib.Core.Path.{_≡_, refl, sym, _∙_, ap, subst}
 use Prim.Native.Nat.{ℕ, _≤_, _<_, _^_}
+use mathlib.Core.Option.{none, some as set}
 use mathlib.Core.List.{[], _∷_, List}
 use lib.ListN.{length}
 use native.Mathlib.Omega.{arith}
@@ -20,7 +21,7 @@ use ghost.Atoms.{Atoms, sem}
 use contract.Monad.{Fun, fact}
 use contract.Running.{givenOf, tables, tablesOf}
 use types.Kit.{Given, Item, atRet, ‵, raw, some, later, _⊛_, ⋆, _$_, _∵_, !, qed, by, move, keep, drop, use1, use0, group, split, join, pick, rewrite, fsplit, fjoin, feqL, suffices, frame, await, done}
-use types.Run.{look, init, forget, stop, hop, fld, from, load, addr, of-opd, and-then, no-more, assigns, assigns-last, bin, lit, first, branches, exec, land, returns, enter, alloc1, alloc0, params1, pass1, pass0, free1, free0}
+use types.Run.{look, init, stop, hop, fld, from, load, addr, of-opd, and-then, no-more, assigns, assigns-last, bin, lit, first, branches, exec, land, returns, enter, alloc1, alloc0, params1, pass1, pass0}
 use types.Part.{agg, whole, sub, look-in}
 use sound.WpLaws.{FmC, fmOf, WpFn-mono}
 use denote.RattleType.{RattleType, owns}
@@ -47,6 +48,7 @@ use Rattle.leaf_within.specs.declared.DigestStep.{DigestStep}
 use Rattle.leaf_within.specs.Within.{roomNeeded}
 use Rattle.leaf_split.specs.Digests.{DigestSteps}
 use Rattle.leaf_entries.proofs.Locals.{tyAt}
+use Rattle.leaf_entries.proofs.Freed.{stands, all-freed}
 use Rattle.leaf_work.proofs.Work as K
 use Rattle.leaf_work.proofs.Work.Laws as K′
 use Rattle.leaf_work.proofs.Entry as T
@@ -213,6 +215,7 @@ module _ {M : Type 1} (𝓤 : URA M) (H : Heap 𝓤) (A : Atoms 𝓤) (W : Given
         assigns ! (agg ! (and-then ! (load ! (from ! (stop !)) (look ! 23 refl)) (and-then ! (load ! (from ! (fld ! refl (stop !))) (look-in ! 49 (sub ! 1 refl (whole !)))) (no-more !)))) (from ! (stop !)) (init ! 21 refl (tt, (tt, (record { fits = rt .0 }, tt)))) $
         move ! (2 ∷ []) $ use1 W (‵ Page ⊛ ‵ Page) (shr-slice-copy 𝓤 H A W (named 2) κ₂ u8 .twice p (sl p ∷ [])) $ split ! $
         move ! (64 ∷ 5 ∷ 4 ∷ 0 ∷ 3 ∷ 2 ∷ []) $ group ! 6 $ use1 W (raw (Small 𝓤 H A at-mem run .pre to₁)) (asked₁ (few m f₀ (ltb→lt m 513 yes))) $
+        stands W (_ ∷ _ ∷ []) (none ∷ set _ ∷ set _ ∷ set _ ∷ set _ ∷ set _ ∷ set _ ∷ set _ ∷ none ∷ none ∷ set _ ∷ set _ ∷ none ∷ set _ ∷ set _ ∷ set _ ∷ set _ ∷ set _ ∷ set _ ∷ set _ ∷ set _ ∷ []) $
         calls-at ! fm (Small 𝓤 H A at-mem run) known₁ to₁ (and-then ! (load ! (from ! (stop !)) (look ! 56 refl)) (and-then ! (load ! (from ! (stop !)) (look ! 30 refl)) (and-then ! (load ! (from ! (stop !)) (look ! 26 refl)) (and-then ! (load ! (from ! (stop !)) (look ! 50 refl)) (and-then ! (load ! (from ! (stop !)) (look ! 22 refl)) (and-then ! (load ! (from ! (stop !)) (look ! 18 refl)) (no-more !))))))) (λ w₃.
         use1 W (later (some (λ (r : DigestStep). (toks ⊛ ‵ (Q.the-row .own r (w₃ ∷ []))) ⊛ raw (ensured 𝓤 H A one.ended (one.clauses 𝓤 H A at-mem run) κs args tt r)))) (id⊢ 𝓤 _) $ await ! tt $ pick ! (λ r₃.
         split ! $ move ! (1 ∷ []) $ use1 W (some (λ (ls : Lasts). ‵ (lasts one.ended κs args ls) ⊛ raw (fact 𝓤 (Ends r₃ (ls .1 .0) (ls .1 .1 .0) (ls .1 .1 .1 .1 .0) (ls .1 .1 .1 .1 .1 .0))))) (id⊢ 𝓤 _) $ pick ! (λ ls.
@@ -224,8 +227,7 @@ module _ {M : Type 1} (𝓤 : URA M) (H : Heap 𝓤) (A : Atoms 𝓤) (W : Given
         assigns-last ! (of-opd ! (load ! (from ! (stop !)) (look ! 46 refl))) (from ! (stop !)) (init ! 38 refl (LL.lawful Q.the-type Q′.the-laws 𝓤 H A W .typed r₃ _ is-r .0)) $
         exec ! C Λ (En l₀ l₁ l₂ l₃ l₄ l₅ l₆ l₇ l₈ l₉ l₁₀ l₁₁ l₁₂ l₁₃ l₁₄ l₁₅ l₁₆ l₁₇ l₁₈ l₁₉ l₂₀ l₂₁ l₂₂ l₂₃ l₂₄ l₂₅ l₂₆ l₂₇ l₂₈) piece.t-5 (atRet (En l₀ l₁ l₂ l₃ l₄ l₅ l₆ l₇ l₈ l₉ l₁₀ l₁₁ l₁₂ l₁₃ l₁₄ l₁₅ l₁₆ l₁₇ l₁₈ l₁₉ l₂₀ l₂₁ l₂₂ l₂₃ l₂₄ l₂₅ l₂₆ l₂₇ l₂₈) Post) $
         assigns ! (of-opd ! (load ! (from ! (stop !)) (look ! 38 refl))) (from ! (stop !)) (init ! 62 refl (LL.lawful Q.the-type Q′.the-laws 𝓤 H A W .typed r₃ _ is-r .0)) $
-        returns ! (look ! 62 refl) $ forget ! 62 refl $ forget ! 60 refl $ forget ! 58 refl $ forget ! 56 refl $ forget ! 54 refl $ forget ! 52 refl $ forget ! 50 refl $ forget ! 48 refl $ forget ! 46 refl $ forget ! 42 refl $ forget ! 40 refl $ forget ! 38 refl $ forget ! 36 refl $ forget ! 34 refl $ forget ! 32 refl $ forget ! 30 refl $ forget ! 28 refl $ forget ! 26 refl $ forget ! 24 refl $ forget ! 22 refl $
-        move ! (62 ∷ 63 ∷ []) $ free1 ! $ move ! (60 ∷ 61 ∷ []) $ free1 ! $ move ! (58 ∷ 59 ∷ []) $ free1 ! $ move ! (56 ∷ 57 ∷ []) $ free1 ! $ move ! (54 ∷ 55 ∷ []) $ free1 ! $ move ! (52 ∷ 53 ∷ []) $ free1 ! $ move ! (50 ∷ 51 ∷ []) $ free1 ! $ move ! (48 ∷ 49 ∷ []) $ free1 ! $ move ! (46 ∷ 47 ∷ []) $ free1 ! $ move ! (44 ∷ 45 ∷ []) $ free1 ! $ move ! (42 ∷ 43 ∷ []) $ free1 ! $ move ! (40 ∷ 41 ∷ []) $ free1 ! $ move ! (38 ∷ 39 ∷ []) $ free1 ! $ move ! (36 ∷ 37 ∷ []) $ free1 ! $ move ! (34 ∷ 35 ∷ []) $ free1 ! $ move ! (32 ∷ 33 ∷ []) $ free1 ! $ move ! (30 ∷ 31 ∷ []) $ free1 ! $ move ! (28 ∷ 29 ∷ []) $ free1 ! $ move ! (26 ∷ 27 ∷ []) $ free1 ! $ move ! (24 ∷ 25 ∷ []) $ free1 ! $ move ! (22 ∷ 23 ∷ []) $ free1 ! $ move ! (20 ∷ 21 ∷ []) $ free1 ! $ move ! (18 ∷ 19 ∷ []) $ free1 ! $ move ! (16 ∷ 17 ∷ []) $ free1 ! $ move ! (14 ∷ 15 ∷ []) $ free1 ! $ move ! (12 ∷ 13 ∷ []) $ free1 ! $ move ! (10 ∷ 11 ∷ []) $ free1 ! $ move ! (8 ∷ 9 ∷ []) $ free1 ! $ move ! (6 ∷ 7 ∷ []) $ free1 ! $ free0 ! $
+        returns ! (look ! 62 refl) $ all-freed W (_ ∷ _ ∷ _ ∷ _ ∷ _ ∷ _ ∷ []) (set _ ∷ set _ ∷ set _ ∷ set _ ∷ set _ ∷ set _ ∷ set _ ∷ set _ ∷ set _ ∷ none ∷ set _ ∷ set _ ∷ set _ ∷ set _ ∷ set _ ∷ set _ ∷ set _ ∷ set _ ∷ set _ ∷ set _ ∷ set _ ∷ []) $
         keep ! (0 ∷ 4 ∷ 3 ∷ 5 ∷ 2 ∷ 1 ∷ []) $ by ! (exits r₃ (ls .1 .0) (ls .1 .1 .0) (ls .1 .1 .1 .1 .0) (ls .1 .1 .1 .1 .1 .0) f₃ n₀ n₁ n₃ n₄ is-r)))))))))))
         (λ no.
         assigns ! (addr ! (from ! (fld ! refl (hop ! (look-in ! 57 (sub ! 0 refl (whole !))) (stop !))))) (from ! (stop !)) (init ! 19 refl (tt, tt)) $
@@ -238,6 +240,7 @@ module _ {M : Type 1} (𝓤 : URA M) (H : Heap 𝓤) (A : Atoms 𝓤) (W : Given
         assigns ! (agg ! (and-then ! (load ! (from ! (stop !)) (look ! 7 refl)) (and-then ! (load ! (from ! (fld ! refl (stop !))) (look-in ! 49 (sub ! 1 refl (whole !)))) (no-more !)))) (from ! (stop !)) (init ! 5 refl (tt, (tt, (record { fits = rt .0 }, tt)))) $
         move ! (2 ∷ []) $ use1 W (‵ Page ⊛ ‵ Page) (shr-slice-copy 𝓤 H A W (named 2) κ₂ u8 .twice p (sl p ∷ [])) $ split ! $
         move ! (64 ∷ 5 ∷ 4 ∷ 0 ∷ 3 ∷ 2 ∷ []) $ group ! 6 $ use1 W (raw (Long 𝓤 H A at-mem run .pre to₂)) (asked₂ (subst (λ (k : ℕ). k ≤ 4096) (f₀ .0) (f₀ .1))) $
+        stands W (_ ∷ _ ∷ []) (none ∷ set _ ∷ set _ ∷ set _ ∷ set _ ∷ set _ ∷ set _ ∷ set _ ∷ none ∷ none ∷ set _ ∷ set _ ∷ none ∷ none ∷ none ∷ none ∷ none ∷ none ∷ none ∷ none ∷ none ∷ set _ ∷ set _ ∷ set _ ∷ set _ ∷ set _ ∷ set _ ∷ set _ ∷ set _ ∷ []) $
         calls-at ! fm (Long 𝓤 H A at-mem run) known₂ to₂ (and-then ! (load ! (from ! (stop !)) (look ! 56 refl)) (and-then ! (load ! (from ! (stop !)) (look ! 14 refl)) (and-then ! (load ! (from ! (stop !)) (look ! 10 refl)) (and-then ! (load ! (from ! (stop !)) (look ! 50 refl)) (and-then ! (load ! (from ! (stop !)) (look ! 6 refl)) (and-then ! (load ! (from ! (stop !)) (look ! 2 refl)) (no-more !))))))) (λ w₃.
         use1 W (later (some (λ (r : DigestStep). (toks ⊛ ‵ (Q.the-row .own r (w₃ ∷ []))) ⊛ raw (ensured 𝓤 H A two.ended (two.clauses 𝓤 H A at-mem run) κs args tt r)))) (id⊢ 𝓤 _) $ await ! tt $ pick ! (λ r₃.
         split ! $ move ! (1 ∷ []) $ use1 W (some (λ (ls : Lasts). ‵ (lasts two.ended κs args ls) ⊛ raw (fact 𝓤 (Ends r₃ (ls .1 .0) (ls .1 .1 .0) (ls .1 .1 .1 .1 .0) (ls .1 .1 .1 .1 .1 .0))))) (id⊢ 𝓤 _) $ pick ! (λ ls.
@@ -249,8 +252,7 @@ module _ {M : Type 1} (𝓤 : URA M) (H : Heap 𝓤) (A : Atoms 𝓤) (W : Given
         assigns-last ! (of-opd ! (load ! (from ! (stop !)) (look ! 44 refl))) (from ! (stop !)) (init ! 38 refl (LL.lawful Q.the-type Q′.the-laws 𝓤 H A W .typed r₃ _ is-r .0)) $
         exec ! C Λ (En l₀ l₁ l₂ l₃ l₄ l₅ l₆ l₇ l₈ l₉ l₁₀ l₁₁ l₁₂ l₁₃ l₁₄ l₁₅ l₁₆ l₁₇ l₁₈ l₁₉ l₂₀ l₂₁ l₂₂ l₂₃ l₂₄ l₂₅ l₂₆ l₂₇ l₂₈) piece.t-5 (atRet (En l₀ l₁ l₂ l₃ l₄ l₅ l₆ l₇ l₈ l₉ l₁₀ l₁₁ l₁₂ l₁₃ l₁₄ l₁₅ l₁₆ l₁₇ l₁₈ l₁₉ l₂₀ l₂₁ l₂₂ l₂₃ l₂₄ l₂₅ l₂₆ l₂₇ l₂₈) Post) $
         assigns ! (of-opd ! (load ! (from ! (stop !)) (look ! 38 refl))) (from ! (stop !)) (init ! 62 refl (LL.lawful Q.the-type Q′.the-laws 𝓤 H A W .typed r₃ _ is-r .0)) $
-        returns ! (look ! 62 refl) $ forget ! 62 refl $ forget ! 60 refl $ forget ! 58 refl $ forget ! 56 refl $ forget ! 54 refl $ forget ! 52 refl $ forget ! 50 refl $ forget ! 48 refl $ forget ! 44 refl $ forget ! 42 refl $ forget ! 40 refl $ forget ! 38 refl $ forget ! 20 refl $ forget ! 18 refl $ forget ! 16 refl $ forget ! 14 refl $ forget ! 12 refl $ forget ! 10 refl $ forget ! 8 refl $ forget ! 6 refl $
-        move ! (62 ∷ 63 ∷ []) $ free1 ! $ move ! (60 ∷ 61 ∷ []) $ free1 ! $ move ! (58 ∷ 59 ∷ []) $ free1 ! $ move ! (56 ∷ 57 ∷ []) $ free1 ! $ move ! (54 ∷ 55 ∷ []) $ free1 ! $ move ! (52 ∷ 53 ∷ []) $ free1 ! $ move ! (50 ∷ 51 ∷ []) $ free1 ! $ move ! (48 ∷ 49 ∷ []) $ free1 ! $ move ! (46 ∷ 47 ∷ []) $ free1 ! $ move ! (44 ∷ 45 ∷ []) $ free1 ! $ move ! (42 ∷ 43 ∷ []) $ free1 ! $ move ! (40 ∷ 41 ∷ []) $ free1 ! $ move ! (38 ∷ 39 ∷ []) $ free1 ! $ move ! (36 ∷ 37 ∷ []) $ free1 ! $ move ! (34 ∷ 35 ∷ []) $ free1 ! $ move ! (32 ∷ 33 ∷ []) $ free1 ! $ move ! (30 ∷ 31 ∷ []) $ free1 ! $ move ! (28 ∷ 29 ∷ []) $ free1 ! $ move ! (26 ∷ 27 ∷ []) $ free1 ! $ move ! (24 ∷ 25 ∷ []) $ free1 ! $ move ! (22 ∷ 23 ∷ []) $ free1 ! $ move ! (20 ∷ 21 ∷ []) $ free1 ! $ move ! (18 ∷ 19 ∷ []) $ free1 ! $ move ! (16 ∷ 17 ∷ []) $ free1 ! $ move ! (14 ∷ 15 ∷ []) $ free1 ! $ move ! (12 ∷ 13 ∷ []) $ free1 ! $ move ! (10 ∷ 11 ∷ []) $ free1 ! $ move ! (8 ∷ 9 ∷ []) $ free1 ! $ move ! (6 ∷ 7 ∷ []) $ free1 ! $ free0 ! $
+        returns ! (look ! 62 refl) $ all-freed W (_ ∷ _ ∷ _ ∷ _ ∷ _ ∷ _ ∷ []) (set _ ∷ set _ ∷ set _ ∷ set _ ∷ set _ ∷ set _ ∷ set _ ∷ set _ ∷ none ∷ set _ ∷ set _ ∷ set _ ∷ set _ ∷ none ∷ none ∷ none ∷ none ∷ none ∷ none ∷ none ∷ none ∷ set _ ∷ set _ ∷ set _ ∷ set _ ∷ set _ ∷ set _ ∷ set _ ∷ set _ ∷ []) $
         keep ! (0 ∷ 4 ∷ 3 ∷ 5 ∷ 2 ∷ 1 ∷ []) $ by ! (exits r₃ (ls .1 .0) (ls .1 .1 .0) (ls .1 .1 .1 .1 .0) (ls .1 .1 .1 .1 .1 .0) f₃ n₀ n₁ n₃ n₄ is-r))))))))))))))))))))))))))))))))))))))))))))
 
 module _ {M : Type 1} (𝓤 : URA M) (H : Heap 𝓤) (A : Atoms 𝓤) (W : Given 𝓤 H A) (mem : Memory → SProp 𝓤) (run : Routine → Fun 𝓤) (𝓣 : Tables 𝓤 H)
