@@ -3,6 +3,7 @@
 -- Assumes nothing.
 use mathlib.Core.Path.{_≡_, refl, sym, _∙_, ap, subst}
 use Prim.Native.Nat.{ℕ, _<_, _^_}
+use mathlib.Core.Option.{none, some as set}
 use mathlib.Core.List.{[], _∷_, List}
 use lib.ListN.{length}
 use lib.Dec.{T as Holds}
@@ -19,7 +20,7 @@ use ghost.Atoms.{Atoms}
 use contract.Monad.{Fun, fact}
 use contract.Running.{givenOf, tables, tablesOf}
 use types.Kit.{Given, Item, ‵, raw, some, later, _⊛_, ⋆, _$_, _∵_, !, qed, by, move, keep, drop, use1, use2, split, join, pick, rewrite, fsplit, fsplit3, fjoin, fjoin3, feqL, feqI, suffices, frame, await, done}
-use types.Run.{look, init, look-raw, store-raw, forget, stop, hop, fld, from, load, addr, of-opd, and-then, no-more, assigns, land, returns, enter, alloc1, alloc0, params1, pass1, pass0, free1, free0}
+use types.Run.{look, init, look-raw, store-raw, stop, hop, fld, from, load, addr, of-opd, and-then, no-more, assigns, land, returns, enter, alloc1, alloc0, params1, pass1, pass0}
 use types.Part.{agg, whole, sub, look-in}
 use types.SemTy.{Body}
 use sound.WpLaws.{FmC, fmOf, WpFn-mono}
@@ -51,6 +52,7 @@ use Rattle.leaf_open.specs.Opening.{openingOf}
 use Rattle.leaf_entries.specs.Lists.{drained}
 use Rattle.leaf_step.specs.declared.OpenStep.{OpenStep}
 use Rattle.leaf_entries.proofs.Locals.{tyAt}
+use Rattle.leaf_entries.proofs.Freed.{all-freed}
 use Rattle.leaf_work.proofs.Work as K
 use Rattle.leaf_work.proofs.Work.Laws as K′
 use Rattle.leaf_work.proofs.Entry as T
@@ -241,8 +243,7 @@ module _ {M : Type 1} (𝓤 : URA M) (H : Heap 𝓤) (A : Atoms 𝓤) (W : Given
         assigns ! (of-opd ! (load ! (from ! (fld ! {d = 16} refl (stop !))) (look-in ! 26 (sub ! 2 {d = 16} refl (whole !))))) (from ! (hop ! (look ! 42 refl) (stop !))) (store-raw ! 7 refl (LL.lawful K.the-type K′.the-laws 𝓤 H A W .typed (r .work) _ (parts .1 .1 .0) .0)) $
         assigns ! (of-opd ! (load ! (from ! (fld ! {d = 0} refl (stop !))) (look-in ! 26 (sub ! 0 {d = 0} refl (whole !))))) (from ! (stop !)) (init ! 44 refl (tt, record { fits = parts .0 .1 })) $
         move ! (8 ∷ []) $ drop ! $ owned ! K.the-row (Is K.the-row) (LL.makes K.the-type K′.the-plain 𝓤 H A) (r .work) (machK (r .work) ∷ []) (parts .1 .1 .0) $ move ! (8 ∷ 0 ∷ 9 ∷ 10 ∷ 11 ∷ []) $ closes ! tt K.the-row (r .work) (machK (r .work) ∷ []) b₀ o₀ $
-        returns ! (look ! 42 refl) $ forget ! 10 refl $ forget ! 12 refl $ forget ! 14 refl $ forget ! 16 refl $ forget ! 18 refl $ forget ! 20 refl $ forget ! 22 refl $ forget ! 24 refl $ forget ! 26 refl $ forget ! 28 refl $ forget ! 30 refl $ forget ! 32 refl $ forget ! 34 refl $ forget ! 36 refl $ forget ! 38 refl $ forget ! 40 refl $ forget ! 42 refl $
-        move ! (42 ∷ 43 ∷ []) $ free1 ! $ move ! (40 ∷ 41 ∷ []) $ free1 ! $ move ! (38 ∷ 39 ∷ []) $ free1 ! $ move ! (36 ∷ 37 ∷ []) $ free1 ! $ move ! (34 ∷ 35 ∷ []) $ free1 ! $ move ! (32 ∷ 33 ∷ []) $ free1 ! $ move ! (30 ∷ 31 ∷ []) $ free1 ! $ move ! (28 ∷ 29 ∷ []) $ free1 ! $ move ! (26 ∷ 27 ∷ []) $ free1 ! $ move ! (24 ∷ 25 ∷ []) $ free1 ! $ move ! (22 ∷ 23 ∷ []) $ free1 ! $ move ! (20 ∷ 21 ∷ []) $ free1 ! $ move ! (18 ∷ 19 ∷ []) $ free1 ! $ move ! (16 ∷ 17 ∷ []) $ free1 ! $ move ! (14 ∷ 15 ∷ []) $ free1 ! $ move ! (12 ∷ 13 ∷ []) $ free1 ! $ move ! (10 ∷ 11 ∷ []) $ free1 ! $ free0 ! $
+        returns ! (look ! 42 refl) $ all-freed W (_ ∷ _ ∷ _ ∷ _ ∷ _ ∷ _ ∷ _ ∷ _ ∷ _ ∷ _ ∷ []) (set _ ∷ set _ ∷ set _ ∷ set _ ∷ set _ ∷ set _ ∷ set _ ∷ set _ ∷ set _ ∷ set _ ∷ set _ ∷ set _ ∷ set _ ∷ set _ ∷ set _ ∷ set _ ∷ set _ ∷ []) $
         keep ! (0 ∷ 1 ∷ 2 ∷ 3 ∷ 5 ∷ 4 ∷ 6 ∷ 9 ∷ 8 ∷ 7 ∷ []) $ by ! (exits r (zs .0) (us .1 .1 .0) (ends r (us .1 .1 .0) (zs .0) f₁ f₂) n₁ n₂ (parts .0 .1)))))))))))))))))))))))))))))))))
 
 module _ {M : Type 1} (𝓤 : URA M) (H : Heap 𝓤) (A : Atoms 𝓤) (W : Given 𝓤 H A) (mem : Memory → SProp 𝓤) (run : Routine → Fun 𝓤) (𝓣 : Tables 𝓤 H)
