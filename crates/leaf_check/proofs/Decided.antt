@@ -103,10 +103,10 @@ module _ (size : ℕ) (q : PageSize size) (p : List ℕ) (g : Regardable size p)
   base-rises : KeysRise p
   base-rises i h = with-records (omega arith) .keys i h
 
-  base-light : (from to : ℕ) → from ≤ to → to ≤ count p → All (λ r. leb (length (r .value)) (valueLimit size) ≡ true) (recordsBetween p from to)
+  base-fitting : (from to : ℕ) → from ≤ to → to ≤ count p → All (λ r. leb (length (r .value)) (valueLimit size) ≡ true) (recordsBetween p from to)
   unfolding recordsBetween run
-  base-light from to o h = elim (decLt 0 (count p)) [
-    | yes l ↦ all-map (λ r x. le-leb (length (r .value)) (valueLimit size) x) (records-of-a-good-page-are-proper size p q (with-records l) from to o h .light)
+  base-fitting from to o h = elim (decLt 0 (count p)) [
+    | yes l ↦ all-map (λ r x. le-leb (length (r .value)) (valueLimit size) x) (records-of-a-good-page-are-proper size p q (with-records l) from to o h .fitting)
     | no l ↦ (let e : to - from ≡ 0 = omega (arith, l) in rw e nil)
   ]
 
@@ -137,7 +137,7 @@ module _ (size : ℕ) (q : PageSize size) (w : Work) (list : List Entry) (store 
 
   module _ (fits : w .filled ≤ length store) (low-in : w .low ≤ count p) (used-in : w .used ≤ length list) where
     abbrev ComeTo : Pass → Type 0
-    ComeTo y = Come b p size refl store fits low-in (base-laid size q p g) (base-rises size q p g) (base-light size q p g) (begun sep) es y
+    ComeTo y = Come b p size refl store fits low-in (base-laid size q p g) (base-rises size q p g) (base-fitting size q p g) (begun sep) es y
 
     module _ (y : Pass) (c : ComeTo y) where
       count-is : y .count ≡ length L
@@ -336,7 +336,7 @@ module _ (size : ℕ) (q : PageSize size) (w : Work) (list : List Entry) (store 
               rest-above = rest-above ends;
               listed-past = rw (← past-same) (and-right (eqb (w .bytes) (y .bytes)) past l₂);
               passed-part = le-leb (w .low) (count p) low-in;
-              listed-light = all-every (λ r. leb (length (r .value)) (valueLimit size)) (c .light);
+              listed-fitting = all-every (λ r. leb (length (r .value)) (valueLimit size)) (c .fitting);
               gauge-right = gauge;
               keys-bounded = keys-bounded ends;
               last-below = and-left (lastBelow w) (cutoffRight w) m₂;
@@ -395,7 +395,7 @@ module _ (size : ℕ) (q : PageSize size) (w : Work) (list : List Entry) (store 
           let split : passedAll b p (begun sep) (es ++ drop (w .used) list) .right ≡ true = rw (take-append-drop (w .used) list) wr in
           let y-right : y .right ≡ true = right-before b p (begun sep) es (drop (w .used) list) split in
           let walk = walked b p (begun sep) es refl (omega (arith, long)) y-right in
-          let c : ComeTo fits low-in used-in y = come b p size refl store fits low-in (base-laid size q p g) (base-rises size q p g) (base-light size q p g) walk in
+          let c : ComeTo fits low-in used-in y = come b p size refl store fits low-in (base-laid size q p g) (base-rises size q p g) (base-fitting size q p g) walk in
           let behind : passedAll b p y (drop (w .used) list) .right ≡ true = rw (← the-whole) wr in
           let bl = passed-blanks b p y (drop (w .used) list) y-right (omega (arith, c .seen, long)) behind in
           let same : whole ≡ y = the-whole ∙ bl .1 in
@@ -411,14 +411,14 @@ module _ (size : ℕ) (q : PageSize size) (w : Work) (list : List Entry) (store 
       let low-in : w .low ≤ count p = leb-true _ _ (k .passed-part) in
       let blanks = and-right (every (isOperation (w .low) p) es) (every isBlank (drop (w .used) list)) ops in
       let shapes = all-map (shape (w .low) p) (every-all (isOperation (w .low) p) es (and-left (every (isOperation (w .low) p) es) _ ops)) in
-      let light = every-all (λ r. leb (length (r .value)) (valueLimit size)) L (k .listed-light) in
+      let fitting = every-all (λ r. leb (length (r .value)) (valueLimit size)) L (k .listed-fitting) in
       let rising : rises false sep L ≡ true =
       rises-left false sep L R
       (rises-of sep (L ++ R) (rw pending-is at (k .keys-rise))
       (all-map (λ r x. and-left (not (ltKey (r .key) sep)) _ x) (every-all (λ r. not (ltKey (r .key) sep) && belowCutoff (cutoffOf w) (r .key)) (L ++ R) (rw pending-is at (k .keys-bounded))))) in
-      let found = to-walk b p size refl store fits low-in (base-laid size q p g) (base-rises size q p g) (base-light size q p g) (begun sep) shapes (and-left (placed (w .filled) 0 es) _ laid) light rising in
+      let found = to-walk b p size refl store fits low-in (base-laid size q p g) (base-rises size q p g) (base-fitting size q p g) (begun sep) shapes (and-left (placed (w .filled) 0 es) _ laid) fitting rising in
       let long : length es ≡ w .used = length-take-le (w .used) list used-in in
-      let c : ComeTo fits low-in used-in (found .0) = come b p size refl store fits low-in (base-laid size q p g) (base-rises size q p g) (base-light size q p g) (found .1) in
+      let c : ComeTo fits low-in used-in (found .0) = come b p size refl store fits low-in (base-laid size q p g) (base-rises size q p g) (base-fitting size q p g) (found .1) in
       let is = walk-is-the-pass b p (found .1) refl (omega (arith, long)) in
       let same : whole ≡ found .0 =
       the-whole ∙ ap (λ (x : Pass). passedAll b p x (drop (w .used) list)) (is .0) ∙ blanks-pass b p (found .0) (drop (w .used) list) (is .1) (omega (arith, c .seen, long)) blanks in

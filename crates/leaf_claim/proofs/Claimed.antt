@@ -76,7 +76,7 @@ module _ (size : ℕ) (q : PageSize size) where
     unfolding plan
     cut-as-written =
         ap (finished size (cutoffOf (s .work)))
-        (cutting-as-the-paper-says size q pending (rw (pending-parts (s .work) (s .list) (s .store) (regarded (s .work) (s .page))) (h .invariant .light)))
+        (cutting-as-the-paper-says size q pending (rw (pending-parts (s .work) (s .list) (s .store) (regarded (s .work) (s .page))) (h .invariant .fitting)))
 
     digests-as-document-01-says : (any area tickets : List ℕ) → answered size s (digest any area tickets) ≡ 0
         → Digests size s pending area tickets (digestOf size (s .work) (s .list) (s .store) (lent s any) area tickets)

@@ -118,7 +118,7 @@ module _ (size : ℕ) (q : PageSize size) (s : State) (h : Reached size s) (any 
   whole-is = leaves-and-kept-are-the-records size (cutoffOf w) pending
 
   cut-right : Sized size (cutoffOf w) (cutting .left) (cutting .leaves)
-  cut-right = leaves-have-right-sizes size q (cutoffOf w) pending (rw (pending-parts w (s .list) (s .store) p) (h .invariant .light))
+  cut-right = leaves-have-right-sizes size q (cutoffOf w) pending (rw (pending-parts w (s .list) (s .store) p) (h .invariant .fitting))
 
   pub cut-leaves-fit : All (Fits size) (cutting .leaves)
   cut-leaves-fit = leaves-fit q cut-right (rw (whole-is, pending-parts w (s .list) (s .store) p) (pending-keys-have-32-bytes size s h))
@@ -190,7 +190,7 @@ module _ (size : ℕ) (q : PageSize size) (s : State) (h : Reached size s) (any 
     has-pages = passed 16 (hasPages size pending area tickets) 0 (passed 8 (isOpen w) _ (first-passed 0 _ (eqb-true _ _ e) .1) .1) .0
 
     few : length (cutting .leaves) ≤ asked
-    few = leaves-never-more-than-pages-asked size q (cutoffOf w) pending (rw (pending-parts w (s .list) (s .store) p) (h .invariant .light))
+    few = leaves-never-more-than-pages-asked size q (cutoffOf w) pending (rw (pending-parts w (s .list) (s .store) p) (h .invariant .fitting))
 
     area-is-as-long : length (digest-done .area) ≡ length area
     area-is-as-long =

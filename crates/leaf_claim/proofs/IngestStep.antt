@@ -9,7 +9,7 @@ use lib.ListN.{length}
 use borrow.Author.Tests.{eqb-true, leb-true, eq-eqb}
 use Rattle.leaf_node.specs.Record.{total}
 use Rattle.leaf_node.specs.Page.{start, lengthAt}
-use Rattle.leaf_model.specs.Work.{Change, Ingest, belowCutoff, lightChange, allowed}
+use Rattle.leaf_model.specs.Work.{Change, Ingest, belowCutoff, changeFits, allowed}
 use Rattle.leaf_model.specs.Tally.{changed}
 use Rattle.leaf_model.specs.Claim.{Rising}
 use Rattle.leaf_model.proofs.Keys.{rising-right}
@@ -98,7 +98,7 @@ module _ (size : ℕ) (s : State) (h : Reached size s) (any k : List ℕ) (c : O
 
   record Passed : Type 0 where
     turn : isOpen w ≡ true
-    light : lightChange size c ≡ true
+    fitting : changeFits size c ≡ true
     let-in : letsIn w k ≡ true
     below : belowCutoff (cutoffOf w) k ≡ true
     room-list : countAfter w p k c + length (restAfter w p k) ≤ length (s .list)
@@ -109,15 +109,15 @@ module _ (size : ℕ) (s : State) (h : Reached size s) (any k : List ℕ) (c : O
   passes e =
       let a₀ = first-passed 0 _ (eqb-true _ _ e) in
       let a₁ = passed 8 (isOpen w) _ (a₀ .1) in
-      let a₂ = passed 11 (lightChange size c) _ (a₁ .1) in
+      let a₂ = passed 11 (changeFits size c) _ (a₁ .1) in
       let a₃ = passed 12 (letsIn w k) _ (a₂ .1) in
       let a₄ = passed 13 (belowCutoff (cutoffOf w) k) _ (a₃ .1) in
       let a₅ = passed 14 _ _ (a₄ .1) in
       let a₆ = passed 15 _ _ (a₅ .1) in
-      record { turn = a₁ .0; light = a₂ .0; let-in = a₃ .0; below = a₄ .0; room-list = leb-true _ _ (a₅ .0); room-store = leb-true _ _ (a₆ .0) }
+      record { turn = a₁ .0; fitting = a₂ .0; let-in = a₃ .0; below = a₄ .0; room-list = leb-true _ _ (a₅ .0); room-store = leb-true _ _ (a₆ .0) }
 
   allows : length k ≡ 32 → Passed → allowed size (seesWork w (s .list) (s .store) p) (Ingest k c) ≡ true
-  allows long a = rw (open-turn w (a .turn)) (and-both (a .let-in) (and-both (a .below) (and-both (a .light) (eq-eqb (length k) 32 long))))
+  allows long a = rw (open-turn w (a .turn)) (and-both (a .let-in) (and-both (a .below) (and-both (a .fitting) (eq-eqb (length k) 32 long))))
 
   rest-rises : Rising (restOf w (s .store) p)
   rest-rises = rising-right (listedOf w (s .list) (s .store) p) (restOf w (s .store) p) (pending-rises size s h)

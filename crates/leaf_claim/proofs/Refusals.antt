@@ -11,7 +11,7 @@ use Rattle.leaf_node.specs.Limits.{PageSize}
 use Rattle.leaf_node.specs.Record.{Record, total}
 use Rattle.leaf_node.specs.Page.{count, run, recordsBetween, records}
 use Rattle.leaf_node.specs.Fits.{All}
-use Rattle.leaf_model.specs.Work.{Turn, Open, Waiting, Done, Change, inserted, belowCutoff, lightChange, recordsBelow, recordsAbove}
+use Rattle.leaf_model.specs.Work.{Turn, Open, Waiting, Done, Change, inserted, belowCutoff, changeFits, recordsBelow, recordsAbove}
 use Rattle.leaf_model.proofs.Lists.{all-map}
 use Rattle.leaf_model.proofs.Ingesting.{Low, tally-changes-as-the-work-does}
 use Rattle.leaf_model.specs.Tally.{changed}
@@ -68,7 +68,7 @@ module _ (size : ℕ) (s : State) (h : Reached size s) where
     unfolding ingestVerdict
     ingest-as-the-table-says =
         ingest-answers-its-verdict size s h any k c
-        ∙ row 9 (isOpen w) _ _ (λ o. row 12 (lightChange size c) _ _ (λ l. row 13 (letsIn w k) _ _ (λ a. row 14 (belowCutoff (cutoffOf w) k) _ _ (λ u.
+        ∙ row 9 (isOpen w) _ _ (λ o. row 12 (changeFits size c) _ _ (λ l. row 13 (letsIn w k) _ _ (λ a. row 14 (belowCutoff (cutoffOf w) k) _ _ (λ u.
         let d = changed-is a in
         let n : countAfter w p k c + length (restAfter w p k) ≡ length (changed k c pending) =
         count-after-ingest size w (s .list) (s .store) p k c (h .ops) (h .laid) ∙ ap length (sym d) in

@@ -13,7 +13,7 @@ use Rattle.leaf_node.specs.Page.{records}
 use Rattle.leaf_node.specs.Fits.{All}
 use Rattle.leaf_model.specs.Basics.{nonempty}
 use Rattle.leaf_model.specs.Cut.{Cut, cutAsWritten}
-use Rattle.leaf_model.specs.Work.{Leaf, belowCutoff, lightChange, finished, turnAfter, overrideAfter, floorAfter, lastKey, leavesBy}
+use Rattle.leaf_model.specs.Work.{Leaf, belowCutoff, changeFits, finished, turnAfter, overrideAfter, floorAfter, lastKey, leavesBy}
 use Rattle.leaf_model.specs.Tally.{changed}
 use Rattle.leaf_model.specs.Claim.{Lt, Le, Rising, recordsOf}
 use Rattle.leaf_work.specs.Tests.{isSet, keyIf}
@@ -43,7 +43,7 @@ Formed remove-cutoff = Unit {0}
 abbrev pub tableSays : ℕ → State → List Record → Call → ℕ
 tableSays size s pending (ingest any k c) =
     unless outOfTurn (isOpen (s .work))
-    (unless longValue (lightChange size c)
+    (unless longValue (changeFits size c)
     (unless keyTooLow (letsIn (s .work) k)
     (unless keyPastCutoff (belowCutoff (cutoffOf (s .work)) k)
     (unless listFull (leb (length (changed k c pending)) (length (s .list)))

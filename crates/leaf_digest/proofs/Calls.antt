@@ -11,7 +11,7 @@ use lib.Seq.{getD-take}
 use borrow.Author.Tests.{eq-eqb, ne-eqb, leb-true}
 use Rattle.leaf_node.specs.Limits.{PageSize, pagesAsked}
 use Rattle.leaf_node.specs.Record.{Record, body, total}
-use Rattle.leaf_node.specs.Fits.{All, nil, cons, Keyed, Light}
+use Rattle.leaf_node.specs.Fits.{All, nil, cons, Keyed, Fitting}
 use Rattle.leaf_model.specs.Work.{zeroKey, keysRise, plan}
 use Rattle.leaf_model.proofs.Tests.{and-left, and-right}
 use Rattle.leaf_model.proofs.Lists.{all-left}
@@ -27,7 +27,7 @@ use Rattle.leaf_work.proofs.Tests.{passed, first-passed}
 use Rattle.leaf_work.proofs.Laid.{pending-parts}
 use Rattle.leaf_work.proofs.FlatList.{rows-and-keys-agree, length-entries}
 use Rattle.leaf_work.proofs.Readiness as readiness
-use Rattle.leaf_work.proofs.PendingRecords.{EntryKeyed, pending-keys-have-32-bytes, pending-values-are-light}
+use Rattle.leaf_work.proofs.PendingRecords.{EntryKeyed, pending-keys-have-32-bytes, pending-values-are-fitting}
 use Rattle.leaf_check.specs.Settled.{Regardable}
 use Rattle.leaf_check.proofs.Verdicts.{the-regarded-is-good}
 use Rattle.leaf_give.specs.Giving.{Gives, planned}
@@ -110,7 +110,7 @@ module _ (size : ℕ) (w : Work) (list : List Entry) (store page area tickets : 
         sized = q;
         ready = ready-over;
         keyed = subst (All Keyed) same-pending (rw (pending-parts w list store (regarded w page)) (pending-keys-have-32-bytes size q w list store page lent-earns-nothing k));
-        light = subst (All (Light size)) same-pending (rw (pending-parts w list store (regarded w page)) (pending-values-are-light size q w list store page lent-earns-nothing));
+        fitting = subst (All (Fitting size)) same-pending (rw (pending-parts w list store (regarded w page)) (pending-values-are-fitting size q w list store page lent-earns-nothing));
         rise = ap keysRise the-pending-records-are-the-same ∙ readiness.c size w list store page lent-earns-nothing .keys-rise;
         counted = ap length the-pending-records-are-the-same ∙ the-pending-records-are-counted size w list store page lent-earns-nothing;
         summed = ap total the-pending-records-are-the-same ∙ the-pending-values-are-summed size w list store page lent-earns-nothing;

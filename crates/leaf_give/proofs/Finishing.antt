@@ -157,7 +157,7 @@ module _ (size : ℕ) (w : Work) (rows keys : List (List ℕ)) (store page area 
 
     left-small : 34 * p .left .count + p .left .bytes ≤ 32767
     unfolding bodyLimit
-    left-small = omega (arith, body-left, cut-leaves-fit size (g .sized) all (g .light) .left, g .sized .most)
+    left-small = omega (arith, body-left, cut-leaves-fit size (g .sized) all (g .fitting) .left, g .sized .most)
 
     pub few-records-are-left : p .left .count ≤ 98304
     few-records-are-left = omega (arith, left-small)
@@ -218,7 +218,7 @@ module _ (size : ℕ) (w : Work) (rows keys : List (List ℕ)) (store page area 
       few : length (c .leaves) + 1 ≤ pagesAsked size (body all)
       few =
           let m : length (plan size (cutoffOf w) all .leaves) ≡ length (c .leaves ++ (c .left ∷ [])) = ap (λ (d : Cut). length (d .leaves)) planned-is in
-          omega (arith, m, length-append (c .leaves) (c .left ∷ []), leaves-never-more-than-pages-asked size (g .sized) (cutoffOf w) all (g .light))
+          omega (arith, m, length-append (c .leaves) (c .left ∷ []), leaves-never-more-than-pages-asked size (g .sized) (cutoffOf w) all (g .fitting))
 
       last-there : LeafThere size rows keys store page s p (p .left) end (length a) (length t)
       last-there = record {
@@ -228,7 +228,7 @@ module _ (size : ℕ) (w : Work) (rows keys : List (List ℕ)) (store page area 
         fits = record {
           there = omega (arith, count-R);
           bytes = o .bytes-is ∙ ap total (sym (all-taken ∙ o .left-is));
-          fits = rw (all-taken, o .left-is) (record { sized = g .sized; keys = left-keyed size w rows keys store page area tickets g (c .leaves) (c .left) (o .whole); room = cut-leaves-fit size (g .sized) all (g .light) .left });
+          fits = rw (all-taken, o .left-is) (record { sized = g .sized; keys = left-keyed size w rows keys store page area tickets g (c .leaves) (c .left) (o .whole); room = cut-leaves-fit size (g .sized) all (g .fitting) .left });
         };
         rest = empty (drop (p .left .count) R) (length-drop (p .left .count) R ∙ omega (arith, count-R)) ∙ sym none-behind;
         some-record = omega (arith, o .count-is, some-left);

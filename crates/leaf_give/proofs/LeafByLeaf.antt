@@ -11,7 +11,7 @@ use Rattle.bit_ops.specs.Key.{ltKey}
 use Rattle.leaf_node.specs.Limits.{bodyLimit, pagesAsked}
 use Rattle.leaf_node.specs.Record.{Record, cost, body, total}
 use Rattle.leaf_node.specs.Page.{count}
-use Rattle.leaf_node.specs.Fits.{All, Keyed, Light}
+use Rattle.leaf_node.specs.Fits.{All, Keyed, Fitting}
 use Rattle.leaf_model.specs.Basics.{joined, nonempty}
 use Rattle.leaf_model.specs.Cut.{Cut, nothingCut, withLeaf, targetOf, cut, cutAll}
 use Rattle.leaf_model.specs.Work.{keysRise, closes, finish, plan}
@@ -77,7 +77,7 @@ module _ (size : ℕ) (w : Work) (rows keys : List (List ℕ)) (store page area 
   pub cut-leaves-have-pages : length (cutAll size all .leaves) ≤ pagesAsked size (body all)
   unfolding plan
   cut-leaves-have-pages =
-      omega (arith, few-finished (closes size (cutoffOf w) (body (cutAll size all .left))) (cutAll size all .leaves) (cutAll size all .left), leaves-never-more-than-pages-asked size (g .sized) (cutoffOf w) all (g .light))
+      omega (arith, few-finished (closes size (cutoffOf w) (body (cutAll size all .left))) (cutAll size all .leaves) (cutAll size all .left), leaves-never-more-than-pages-asked size (g .sized) (cutoffOf w) all (g .fitting))
 
   -- what is left is the end of what is pending
   module _ (ls : List (List Record)) (left : List Record) (whole : joined ls ++ left ≡ all) where
@@ -87,9 +87,9 @@ module _ (size : ℕ) (w : Work) (rows keys : List (List ℕ)) (store page area 
     pub left-rises : keysRise left ≡ true
     left-rises = rise-right (joined ls) left (rw whole (g .rise))
 
-    left-light : All (λ r. cost r ≤ bodyLimit size) left
-    left-light =
-        let a : All (Light size) left = all-right (joined ls) left (rw whole (g .light)) in
+    left-fitting : All (λ r. cost r ≤ bodyLimit size) left
+    left-fitting =
+        let a : All (Fitting size) left = all-right (joined ls) left (rw whole (g .fitting)) in
         all-map (λ r h. omega (arith, limits-agree size (g .sized) .room)) a
 
   module _ (target : ℕ) where
@@ -147,7 +147,7 @@ module _ (size : ℕ) (w : Work) (rows keys : List (List ℕ)) (store page area 
 
         cut-R : cut (bodyLimit size) target [] 0 R ≡ continued (bodyLimit size) target [] R (takenBy (next .end) R)
         cut-R =
-            first-leaf (bodyLimit size) target [] R (left-light (c .leaves) R R-whole)
+            first-leaf (bodyLimit size) target [] R (left-fitting (c .leaves) R R-whole)
             ∙ ap (continued (bodyLimit size) target [] R) (cutting-by-chunks-is-cutting-by-records w rows keys store page (g .ready) (bodyLimit size) target (p .at) next (i .leafed))
 
         -- nothing more is cut
@@ -185,7 +185,7 @@ module _ (size : ℕ) (w : Work) (rows keys : List (List ℕ)) (store page area 
           leaf-sized : LeafSized size l
           leaf-sized =
               let d : Cut = cut (bodyLimit size) target [] 0 b in
-              let a : All (LeafSized size) ((c .leaves ++ (l ∷ [])) ++ d .leaves) = rw (ap (λ (x : Cut). x .leaves) rest-off) at (cut-leaves-fit size (g .sized) all (g .light) .leaves) in
+              let a : All (LeafSized size) ((c .leaves ++ (l ∷ [])) ++ d .leaves) = rw (ap (λ (x : Cut). x .leaves) rest-off) at (cut-leaves-fit size (g .sized) all (g .fitting) .leaves) in
               all-head (all-right (c .leaves) (l ∷ []) (all-left (c .leaves ++ (l ∷ [])) (d .leaves) a))
 
           few : length (c .leaves) + 1 ≤ pagesAsked size (body all)

@@ -7,7 +7,7 @@ use lib.ListN.{length}
 use Rattle.leaf_node.specs.Limits.{PageSize, pagesAsked}
 use Rattle.leaf_node.specs.Record.{Record, body, total}
 use Rattle.leaf_node.specs.Page.{count, valuesSize}
-use Rattle.leaf_node.specs.Fits.{All, Keyed, Light}
+use Rattle.leaf_node.specs.Fits.{All, Keyed, Fitting}
 use Rattle.leaf_model.specs.Cut.{Cut}
 use Rattle.leaf_model.specs.Work.{Leaf, keysRise, plan, separatorAfter, leavesBy}
 use Rattle.leaf_work.specs.declared.Work.{Work}
@@ -38,7 +38,7 @@ module _ (size : ℕ) (w : Work) (rows keys : List (List ℕ)) (store page : Lis
     pub sized : PageSize size
     pub ready : Ready w (listOf rows keys) store page
     pub keyed : All Keyed pending
-    pub light : All (Light size) pending
+    pub fitting : All (Fitting size) pending
     pub rise : keysRise pending ≡ true
     pub counted : length pending ≡ w .count + (count page - w .low)
     pub summed : total pending ≡ w .bytes + valuesSize page (w .low) (count page)

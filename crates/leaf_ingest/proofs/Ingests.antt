@@ -13,7 +13,7 @@ use Rattle.leaf_node.specs.Limits.{PageSize}
 use Rattle.leaf_node.specs.Record.{total}
 use Rattle.leaf_node.specs.Page.{count}
 use Rattle.leaf_node.specs.Build.{put}
-use Rattle.leaf_model.specs.Work.{Change, belowCutoff, lightChange, inserted}
+use Rattle.leaf_model.specs.Work.{Change, belowCutoff, changeFits, inserted}
 use Rattle.leaf_work.specs.declared.Work.{Work}
 use Rattle.leaf_work.specs.declared.Entry.{Entry}
 use Rattle.leaf_work.specs.Lent.{cutoffOf, isOpen, regarded}
@@ -52,7 +52,7 @@ accepted-things-take-an-ingest size w list store page v e z q p r =
 -- the rows that an accepted ingest passed
 pub record Passed (size : ℕ) (w : Work) (list : List Entry) (store page k : List ℕ) (c : Option Change) : Type 0 where
   pub turn : isOpen w ≡ true
-  pub light : lightChange size c ≡ true
+  pub fitting : changeFits size c ≡ true
   pub let-in : letsIn w k ≡ true
   pub below : belowCutoff (cutoffOf w) k ≡ true
   pub list-room : countAfter w page k c + length (restAfter w page k) ≤ length list
@@ -62,12 +62,12 @@ pub passed-rows : (size : ℕ) (w : Work) (list : List Entry) (store page k : Li
 unfolding ingestVerdict
 passed-rows size w list store page k c e =
     let a₁ = passed 8 (isOpen w) _ e in
-    let a₂ = passed 11 (lightChange size c) _ (a₁ .1) in
+    let a₂ = passed 11 (changeFits size c) _ (a₁ .1) in
     let a₃ = passed 12 (letsIn w k) _ (a₂ .1) in
     let a₄ = passed 13 (belowCutoff (cutoffOf w) k) _ (a₃ .1) in
     let a₅ = passed 14 _ _ (a₄ .1) in
     let a₆ = passed 15 _ _ (a₅ .1) in
-    record { turn = a₁ .0; light = a₂ .0; let-in = a₃ .0; below = a₄ .0; list-room = leb-true _ _ (a₅ .0); store-room = leb-true _ _ (a₆ .0) }
+    record { turn = a₁ .0; fitting = a₂ .0; let-in = a₃ .0; below = a₄ .0; list-room = leb-true _ _ (a₅ .0); store-room = leb-true _ _ (a₆ .0) }
 
 pub added-at-most-one : (change : taken.Change) → addedBy change ≤ 1
 added-at-most-one (Put flag) = omega arith

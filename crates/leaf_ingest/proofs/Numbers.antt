@@ -12,7 +12,7 @@ use Rattle.leaf_node.specs.Limits.{PageSize, bodyLimit, valueLimit}
 use Rattle.leaf_node.specs.Record.{total}
 use Rattle.leaf_node.specs.Page.{count, recordsBetween, valuesSize, recordAt}
 use Rattle.leaf_node.proofs.Lengths.{length-run}
-use Rattle.leaf_model.specs.Work.{Change, belowCutoff, lightChange, inserted}
+use Rattle.leaf_model.specs.Work.{Change, belowCutoff, changeFits, inserted}
 use Rattle.leaf_work.specs.declared.Work.{Work}
 use Rattle.leaf_work.specs.declared.Entry.{Entry}
 use Rattle.leaf_work.specs.Lent.{cutoffOf}
@@ -56,8 +56,8 @@ module _ (size : ℕ) (w : Work) (z : Kept) (n : ℕ) (k : List ℕ) (a len entr
           unfolding stepVerdict valueLimit bodyLimit
           the-room-decides v g = rw (eq-eqb (w .turn) 1 o, le-leb len ((size - 2) / 3 - 32) l, ← e, not-false t i, ← f, not-false s j) g
 
-pub a-light-value-is-short : (size len : ℕ) → PageSize size → len ≤ (size - 2) / 3 - 32 → len ≤ 32767
-a-light-value-is-short size len q l = omega (arith, q .most)
+pub a-fitting-value-is-short : (size len : ℕ) → PageSize size → len ≤ (size - 2) / 3 - 32 → len ≤ 32767
+a-fitting-value-is-short size len q l = omega (arith, q .most)
 
 module _ (w : Work) (z : Kept) (n a len entries bytes : ℕ) where
   pub a-full-list-has-number-15 : entries < w .count + (z .stop - w .low) + a + (n - z .low) → 15 ≡ roomVerdict w z n a len entries bytes
@@ -122,9 +122,9 @@ pub added-records : (change : taken.Change) (value k : List ℕ) → addedBy cha
 added-records (Put flag) value k = refl
 added-records Delete value k = refl
 
-light-by-length : (size : ℕ) (c : Option Change) → lightChange size c ≡ leb (length (valueOf c)) (valueLimit size)
-light-by-length size none = sym (le-leb 0 (valueLimit size) (omega arith))
-light-by-length size (some c) = refl
+fitting-by-length : (size : ℕ) (c : Option Change) → changeFits size c ≡ leb (length (valueOf c)) (valueLimit size)
+fitting-by-length size none = sym (le-leb 0 (valueLimit size) (omega arith))
+fitting-by-length size (some c) = refl
 
 pub the-list-is-as-long : (size : ℕ) (w : Work) (rows keys : List (List ℕ)) (store page : List ℕ) → Takes size w (listOf rows keys) store page → length (listOf rows keys) ≡ length rows
 the-list-is-as-long size w rows keys store page t = the-list-is-as-long-as-its-rows rows keys (rows-and-keys-agree rows keys (t .ready .list-there) .0)
@@ -143,7 +143,7 @@ module _ (w : Work) (page k : List ℕ) (z : Kept) (t : Taken w page k z) (n : �
   the-number-is-that-of-the-call size list store change value v q =
       rw (
         q,
-        light-by-length size (changeOf change value),
+        fitting-by-length size (changeOf change value),
         pending-is (changeOf change value),
         pending-bytes-are (changeOf change value),
         added-records change value k,

@@ -15,7 +15,7 @@ use Rattle.leaf_node.specs.Fits.{All}
 use Rattle.leaf_model.specs.Cut.{Cut, nothingCut, withLeaf, targetOf, Taken, takeUntil, takeLeaves, cutAsWritten, cut, cutAll}
 use Rattle.leaf_model.specs.Work.{Work, pending, finished, plan, leavesOf, workAfter, given, digested}
 use Rattle.leaf_model.proofs.Lists.{all-head, all-tail, all-map, all-right, body-append}
-use Rattle.leaf_model.proofs.Cutting.{cut-over-reaching, cut-over, cut-reaching, cut-further, Light, limits-agree}
+use Rattle.leaf_model.proofs.Cutting.{cut-over-reaching, cut-over, cut-reaching, cut-further, Fitting, limits-agree}
 
 module _ (limit target : ℕ) where
   abbrev pub Fits : Record → Type 0
@@ -118,7 +118,7 @@ module _ (limit target : ℕ) where
           rw (e, takeLeaves) (first-leaf [] rs a ∙ ap (continued [] rs) e ∙ ap (withLeaf (u .leaf)) next)
 
 module _ (size : ℕ) (p : PageSize size) where
-  pub cutting-as-the-paper-says : (rs : List Record) → All (Light size) rs → cutAll size rs ≡ cutAsWritten size rs
+  pub cutting-as-the-paper-says : (rs : List Record) → All (Fitting size) rs → cutAll size rs ≡ cutAsWritten size rs
   unfolding cutAll cutAsWritten
   cutting-as-the-paper-says rs a = test (targetOf size (body rs)) refl
     where
@@ -128,7 +128,7 @@ module _ (size : ℕ) (p : PageSize size) where
           (leaf-after-leaf (bodyLimit size) target (length rs) rs (all-map (λ r h. omega (arith, limits-agree size p .room)) a) (omega arith))
 
   -- so a digest, all five steps, is given by the paper's cutting
-  pub digest-as-the-paper-says : (w : Work) → All (Light size) (pending w)
+  pub digest-as-the-paper-says : (w : Work) → All (Fitting size) (pending w)
       → (given size w ≡ leavesOf w (finished size (w .cutoff) (cutAsWritten size (pending w))))
       × (digested size w ≡ workAfter w (finished size (w .cutoff) (cutAsWritten size (pending w))))
   unfolding plan

@@ -18,7 +18,7 @@ use Rattle.leaf_model.specs.Claim.{Lt, Le, Rising, rise[], rise∷, reco
 use Rattle.leaf_model.proofs.Tests.{clash, none-is-not-some, and-left, and-right}
 use Rattle.leaf_model.proofs.Lists.{all-append, all-left, all-map}
 use Rattle.leaf_model.proofs.Keys.{lt-of-test, le-of-not, test-of-lt, lt-of-cutoff, rising-head, rising-append}
-use Rattle.leaf_model.proofs.Cutting.{Light}
+use Rattle.leaf_model.proofs.Cutting.{Fitting}
 use Rattle.leaf_model.proofs.Separators.{AtOrAbove, BelowCutoff, links[]}
 use Rattle.leaf_model.proofs.Invariant.{HasKeyLength, AtTurn, Invariant, at-waiting}
 
@@ -36,12 +36,12 @@ pub record BaseFacts (size : ℕ) (b : Base) : Type 0 where
   pub rising : Rising (b .records)
   pub above-separator : All (AtOrAbove (b .separator)) (b .records)
   pub below-cutoff : All (BelowCutoff (b .cutoff)) (b .records)
-  pub light : All (Light size) (b .records)
+  pub fitting : All (Fitting size) (b .records)
   pub key-lengths : All HasKeyLength (b .records)
   pub separator-below-cutoff : belowCutoff (b .cutoff) (b .separator) ≡ true
 
 within-all : (size : ℕ) (s : List ℕ) (c : Option (List ℕ)) (xs : List Record) → withinBounds size s c xs ≡ true
-    → All (λ r. AtOrAbove s r × BelowCutoff c r × Light size r × HasKeyLength r) xs
+    → All (λ r. AtOrAbove s r × BelowCutoff c r × Fitting size r × HasKeyLength r) xs
 within-all size s c [] h = nil
 within-all size s c (x ∷ xs) h =
     let h₁ = and-right (not (ltKey (x .key) s)) _ h in
@@ -63,7 +63,7 @@ base-facts size b h =
       rising = rising-of-test (b .records) (and-left (keysRise (b .records)) _ h₁);
       above-separator = all-map (λ r p. p .0) a;
       below-cutoff = all-map (λ r p. p .1) a;
-      light = all-map (λ r p. p .2) a;
+      fitting = all-map (λ r p. p .2) a;
       key-lengths = all-map (λ r p. p .3) a;
       separator-below-cutoff = and-left (belowCutoff (b .cutoff) (b .separator)) _ h;
     }
@@ -119,7 +119,7 @@ module _ (size : ℕ) (w : Work) (g : List Leaf) (t : List Record) (h : Invarian
           override-has-records = h .override-has-records;
           above-separator = all-append (r .listed-above) (all-map (λ y a. le-trans (r .floor-right) a) (f .above-separator));
           below-cutoff = all-append (all-map (λ r p. cutoff-down (b .cutoff) (r .key) s p (f .separator-below-cutoff)) below) (f .below-cutoff);
-          light = all-append (all-left (w .listed) (w .rest) (h .light)) (f .light);
+          fitting = all-append (all-left (w .listed) (w .rest) (h .fitting)) (f .fitting);
           key-lengths = all-append (h .key-lengths) (f .key-lengths);
           floor-above-separator = r .floor-right;
           floor-above-latest = le-refl (num s);
@@ -144,7 +144,7 @@ module _ (size : ℕ) (w : Work) (g : List Leaf) (t : List Record) (h : Invarian
           override-has-records = h .override-has-records;
           above-separator = rw append-nil (all-left (w .listed) (w .rest) (h .above-separator));
           below-cutoff = all-map (λ r p. refl) below;
-          light = rw append-nil (all-left (w .listed) (w .rest) (h .light));
+          fitting = rw append-nil (all-left (w .listed) (w .rest) (h .fitting));
           key-lengths = h .key-lengths;
           floor-above-separator = h .floor-above-separator;
           floor-above-latest = h .floor-above-latest;
@@ -165,7 +165,7 @@ opening-on-a-base size b ok =
       override-has-records = λ s e. none-is-not-some e;
       above-separator = f .above-separator;
       below-cutoff = f .below-cutoff;
-      light = f .light;
+      fitting = f .fitting;
       key-lengths = f .key-lengths;
       floor-above-separator = le-refl (num (b .separator));
       floor-above-latest = le-refl (num (b .separator));

@@ -171,8 +171,8 @@ limits-agree size h =
     }
 
 -- a value that isn't too long
-abbrev pub Light : ℕ → Record → Type 0
-Light size r = length (r .value) ≤ valueLimit size
+abbrev pub Fitting : ℕ → Record → Type 0
+Fitting size r = length (r .value) ≤ valueLimit size
 
 -- a leaf of the right size, which needs no merge
 pub record LeafSized (size : ℕ) (l : List Record) : Type 0 where
@@ -213,7 +213,7 @@ module _ (size : ℕ) (p : PageSize size) where
   uncut-fits b =
       target-cases size b (λ o. o ≡ none → b ≤ bodyLimit size) (λ h e. none-is-not-some (sym e)) (λ h k e. none-is-not-some (sym e)) (λ h e. h)
 
-  cut-to : (rs : List Record) (target : ℕ) → targetOf size (body rs) ≡ some target → All (Light size) rs
+  cut-to : (rs : List Record) (target : ℕ) → targetOf size (body rs) ≡ some target → All (Fitting size) rs
       → CutWithin (mergeBelow size) (bodyLimit size) target (cut (bodyLimit size) target [] 0 rs)
   cut-to rs target e a =
       let s = limits-agree size p in
@@ -222,7 +222,7 @@ module _ (size : ℕ) (p : PageSize size) where
       cut-within (bodyLimit size) target (mergeBelow size) (34 + valueLimit size) (s .room) h (omega (arith, s .some-body)) [] 0 rs refl
       (omega (arith, s .some-body)) (omega arith) w
 
-  pub cut-leaves-fit : (rs : List Record) → All (Light size) rs → CutFits size (cutAll size rs)
+  pub cut-leaves-fit : (rs : List Record) → All (Fitting size) rs → CutFits size (cutAll size rs)
   cut-leaves-fit rs a =
       cutAll-cases size rs (CutFits size)
       (λ e. record { leaves = nil; left = uncut-fits (body rs) e })
@@ -230,7 +230,7 @@ module _ (size : ℕ) (p : PageSize size) where
       record { leaves = all-map leaf-sized (g .leaves); left = omega (arith, g .left, target-fits (body rs) target e) })
 
   -- where leaves are cut, what is left doesn't reach their target
-  pub rest-is-below-the-target : (rs : List Record) (target : ℕ) → targetOf size (body rs) ≡ some target → All (Light size) rs
+  pub rest-is-below-the-target : (rs : List Record) (target : ℕ) → targetOf size (body rs) ≡ some target → All (Fitting size) rs
       → body (cutAll size rs .left) < target
   rest-is-below-the-target rs target e a =
       cutAll-cases size rs (λ c. body (c .left) < target)

@@ -13,13 +13,13 @@ use Rattle.leaf_node.specs.Record.{Record, body}
 use Rattle.leaf_node.specs.Fits.{All}
 use Rattle.leaf_model.specs.Basics.{joined, nonempty}
 use Rattle.leaf_model.specs.Cut.{Cut}
-use Rattle.leaf_model.specs.Work.{Turn, Open, Waiting, Done, Work, Leaf, Change, Ingest, Digest, pending, hasKeyLength, belowCutoff, letsIn, orElse, current, recordsBelow, inserted, ingested, turnAfter, separatorAfter, overrideAfter, floorAfter, planned, given, digested, isOpen, isWaiting, lightChange, allowed}
+use Rattle.leaf_model.specs.Work.{Turn, Open, Waiting, Done, Work, Leaf, Change, Ingest, Digest, pending, hasKeyLength, belowCutoff, letsIn, orElse, current, recordsBelow, inserted, ingested, turnAfter, separatorAfter, overrideAfter, floorAfter, planned, given, digested, isOpen, isWaiting, changeFits, allowed}
 use Rattle.leaf_model.specs.Tally.{strike, placeAll, tallied}
 use Rattle.leaf_model.specs.Claim.{Lt, Le, Rising, recordsOf, LeafGood}
 use Rattle.leaf_model.proofs.Tests.{clash, none-is-not-some, and-left, and-right}
 use Rattle.leaf_model.proofs.Lists.{all-append, all-left, all-right, all-map, nonempty-append}
 use Rattle.leaf_model.proofs.Keys.{lt-of-test, le-of-not, lt-of-cutoff, rising-right}
-use Rattle.leaf_model.proofs.Cutting.{whole, Light}
+use Rattle.leaf_model.proofs.Cutting.{whole, Fitting}
 use Rattle.leaf_model.proofs.Plan.{Sized, leaves-and-kept-are-the-records, leaves-have-right-sizes, kept-records-wait-for-a-merge}
 use Rattle.leaf_model.proofs.Separators.{AtOrAbove, BelowCutoff, leaves-have-the-cut-records, records-append, leaves-are-good, kept-records-are-above-their-separator, Links, links-append, leaves-of-a-digest-are-linked, digest-starts-at-its-separator, override-comes-with-records, records-come-with-override, kept-records-are-above-the-override, separator-is-below-cutoff}
 use Rattle.leaf_model.proofs.Ingesting.{Low, split, inserted-all, tally-changes-as-the-work-does, keys-rise-after-ingest, pending-all}
@@ -67,7 +67,7 @@ pub record Invariant (size : ℕ) (w : Work) (g : List Leaf) (t : List Record) :
   -- the last leaf's cutoff is above its keys; a next base starts there, so it must be above all keys of the tally
   pub below-cutoff : All (BelowCutoff (w .cutoff)) t
   -- no record overfills a leaf alone, and a leaf that is full is large enough
-  pub light : All (Light size) (pending w)
+  pub fitting : All (Fitting size) (pending w)
   -- pages hold keys of 32 bytes alone
   pub key-lengths : All HasKeyLength t
   -- a key that is let in is at or above the current separator, also where a digest clears the override, or sets the floor to the cutoff
@@ -90,9 +90,9 @@ at-waiting size Done w g e h = clash e refl
 let-in-above : (w : Work) (l k : List ℕ) → letsIn (ingested w l none) k ≡ true → Lt l k
 let-in-above w l k h = lt-of-test l k (and-right (not (ltKey k (w .floor))) _ h)
 
-change-light : (size : ℕ) (c : Option Change) (d : Change) → lightChange size c ≡ true → c ≡ some d → length (d .value) ≤ valueLimit size
-change-light size none d h e = none-is-not-some e
-change-light size (some c) d h e = rw (← Option·some-injective c d e) (leb-true _ _ h)
+change-fitting : (size : ℕ) (c : Option Change) (d : Change) → changeFits size c ≡ true → c ≡ some d → length (d .value) ≤ valueLimit size
+change-fitting size none d h e = none-is-not-some e
+change-fitting size (some c) d h e = rw (← Option·some-injective c d e) (leb-true _ _ h)
 
 module _ (size : ℕ) (w : Work) (g : List Leaf) (t : List Record) (h : Invariant size w g t) where
   module _ (k : List ℕ) (c : Option Change) (ok : allowed size w (Ingest k c) ≡ true) where
@@ -103,8 +103,8 @@ module _ (size : ℕ) (w : Work) (g : List Leaf) (t : List Record) (h : Invarian
         let ok₃ = and-right (belowCutoff (w .cutoff) k) _ ok₂ in
         let let-in : letsIn w k ≡ true = and-left _ _ ok₁ in
         let below : belowCutoff (w .cutoff) k ≡ true = and-left _ _ ok₂ in
-        let light-c : lightChange size c ≡ true = and-left _ _ ok₃ in
-        let length-k : hasKeyLength k ≡ true = and-right (lightChange size c) _ ok₃ in
+        let fitting-c : changeFits size c ≡ true = and-left _ _ ok₃ in
+        let length-k : hasKeyLength k ≡ true = and-right (changeFits size c) _ ok₃ in
         let o : OpenFacts w g = at-open size (w .turn) w g (and-left _ _ ok) (h .at-turn) in
         let past : List Record = recordsOf g ++ w .listed in
         let e : t ≡ past ++ w .rest = sym (h .tally) ∙ sym (append-assoc (recordsOf g) (w .listed) (w .rest)) in
@@ -123,7 +123,7 @@ module _ (size : ℕ) (w : Work) (g : List Leaf) (t : List Record) (h : Invarian
           override-has-records = λ s q. nonempty-append (w .listed) _ (h .override-has-records s q);
           above-separator = pending-all k _ (w .listed) (w .rest) c v (h .above-separator) (λ d q. le-trans (h .floor-above-separator) (le-of-not (w .floor) k (and-left _ _ let-in)));
           below-cutoff = rw (← tally-is) (all-append (all-left (recordsOf g) _ cut-all) (pending-all k _ (w .listed) (w .rest) c v (all-right (recordsOf g) _ cut-all) (λ d q. below)));
-          light = pending-all k _ (w .listed) (w .rest) c v (h .light) (λ d q. change-light size c d light-c q);
+          fitting = pending-all k _ (w .listed) (w .rest) c v (h .fitting) (λ d q. change-fitting size c d fitting-c q);
           key-lengths = rw (← tally-is) (all-append (all-left (recordsOf g) _ lengths-all) (pending-all k _ (w .listed) (w .rest) c v (all-right (recordsOf g) _ lengths-all) (λ d q. length-k)));
           floor-above-separator = h .floor-above-separator;
           floor-above-latest = h .floor-above-latest;
@@ -160,11 +160,11 @@ module _ (size : ℕ) (w : Work) (g : List Leaf) (t : List Record) (h : Invarian
         let s = current w in
         let c : Cut = planned size w in
         let e : whole c ≡ pending w = leaves-and-kept-are-the-records size (w .cutoff) (pending w) in
-        let z : Sized size (w .cutoff) (c .left) (c .leaves) = leaves-have-right-sizes size p (w .cutoff) (pending w) (h .light) in
+        let z : Sized size (w .cutoff) (c .left) (c .leaves) = leaves-have-right-sizes size p (w .cutoff) (pending w) (h .fitting) in
         let rising-c : Rising (whole c) = rw e (rising-right (recordsOf g) _ (rw (h .tally) (h .rising))) in
         let above : All (AtOrAbove s) (whole c) = rw e (h .above-separator) in
         let below : All (BelowCutoff (w .cutoff)) (whole c) = rw e (all-right (recordsOf g) _ (rw (h .tally) (h .below-cutoff))) in
-        let light-c : All (Light size) (whole c) = rw e (h .light) in
+        let fitting-c : All (Fitting size) (whole c) = rw e (h .fitting) in
         let above-after : All (AtOrAbove (separatorAfter s (c .leaves) (c .left))) (c .left) = kept-records-are-above-their-separator s z rising-c above in
         let kept : nonempty (c .left) ≡ true → (b : List ℕ) × (w .cutoff ≡ some b) × Lt (separatorAfter s (c .leaves) (c .left)) b = λ q.
         let b = kept-records-wait-for-a-merge size (w .cutoff) (pending w) q in
@@ -181,7 +181,7 @@ module _ (size : ℕ) (w : Work) (g : List Leaf) (t : List Record) (h : Invarian
           override-has-records = λ s′ q. override-comes-with-records s s′ (c .leaves) (c .left) q;
           above-separator = rw append-nil (kept-records-are-above-the-override s (w .latest) (c .leaves) (c .left) above-after);
           below-cutoff = h .below-cutoff;
-          light = rw append-nil (all-right (joined (c .leaves)) (c .left) light-c);
+          fitting = rw append-nil (all-right (joined (c .leaves)) (c .left) fitting-c);
           key-lengths = h .key-lengths;
           floor-above-separator = floors .0;
           floor-above-latest = floors .1;

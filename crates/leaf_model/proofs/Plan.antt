@@ -17,7 +17,7 @@ use Rattle.leaf_model.specs.Cut.{Cut, cutAll}
 use Rattle.leaf_model.specs.Work.{closes, finish, plan}
 use Rattle.leaf_model.proofs.Tests.{clash}
 use Rattle.leaf_model.proofs.Lists.{joined-append, body-append}
-use Rattle.leaf_model.proofs.Cutting.{whole, cut-leaves-and-rest-are-the-records, Light, LeafSized, cut-leaves-fit, limits-agree}
+use Rattle.leaf_model.proofs.Cutting.{whole, cut-leaves-and-rest-are-the-records, Fitting, LeafSized, cut-leaves-fit, limits-agree}
 
 -- Leaves under a cutoff, before records that are kept: each has a right size, but the last may be small where there is no cutoff, and then nothing is kept.
 pub data Sized (size : ℕ) : Option (List ℕ) → List Record → List (List Record) → Type 0 where
@@ -81,14 +81,14 @@ module _ (size : ℕ) where
   sized-count p (sized-last {l = r ∷ rs} e z) = omega arith
 
   module _ (p : PageSize size) where
-    pub leaves-have-right-sizes : (cutoff : Option (List ℕ)) (rs : List Record) → All (Light size) rs
+    pub leaves-have-right-sizes : (cutoff : Option (List ℕ)) (rs : List Record) → All (Fitting size) rs
         → Sized size cutoff (plan size cutoff rs .left) (plan size cutoff rs .leaves)
     unfolding plan
     leaves-have-right-sizes cutoff rs a =
         let g = cut-leaves-fit size p rs a in
         finish-sized cutoff _ (cutAll size rs .leaves) (cutAll size rs .left) refl (g .leaves) (g .left)
 
-    pub leaves-never-more-than-pages-asked : (cutoff : Option (List ℕ)) (rs : List Record) → All (Light size) rs
+    pub leaves-never-more-than-pages-asked : (cutoff : Option (List ℕ)) (rs : List Record) → All (Fitting size) rs
         → length (plan size cutoff rs .leaves) ≤ pagesAsked size (body rs)
     leaves-never-more-than-pages-asked cutoff rs a =
         let m = limits-agree size p .some-body in

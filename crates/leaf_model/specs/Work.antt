@@ -263,9 +263,9 @@ awaitsBase Waiting = true
 awaitsBase Done = true
 
 -- No. 12: the new value isn't too long
-abbrev pub lightChange : ℕ → Option Change → Bool
-lightChange size none = true
-lightChange size (some c) = leb (length (c .value)) (valueLimit size)
+abbrev pub changeFits : ℕ → Option Change → Bool
+changeFits size none = true
+changeFits size (some c) = leb (length (c .value)) (valueLimit size)
 
 -- Next base: "separator at or above that cutoff"; without a cutoff there is no next base.
 abbrev pub reachesCutoff : Option (List ℕ) → List ℕ → Bool
@@ -288,7 +288,7 @@ abbrev pub goodBase : ℕ → Base → Bool
 goodBase size b = belowCutoff (b .cutoff) (b .separator) && (keysRise (b .records) && withinBounds size (b .separator) (b .cutoff) (b .records))
 
 abbrev pub allowed : ℕ → Work → Call → Bool
-allowed size w (Ingest k c) = isOpen (w .turn) && (letsIn w k && (belowCutoff (w .cutoff) k && (lightChange size c && hasKeyLength k)))
+allowed size w (Ingest k c) = isOpen (w .turn) && (letsIn w k && (belowCutoff (w .cutoff) k && (changeFits size c && hasKeyLength k)))
 allowed size w Digest = isOpen (w .turn)
 allowed size w (NextBase b) = awaitsBase (w .turn) && (reachesCutoff (w .cutoff) (b .separator) && goodBase size b)
 allowed size w RemoveCutoff = isWaiting (w .turn)

@@ -20,7 +20,7 @@ use Rattle.leaf_node.specs.Page.{word, count, pointer, keyAt, numberAt, 
 use Rattle.leaf_node.specs.Good.{OffsetsRight, ValuesFit, KeysRise, Good}
 use Rattle.leaf_node.specs.Build.{le16, tagged, zeros, pointers, build, cleared}
 use Rattle.leaf_node.specs.Steps.{Laid}
-use Rattle.leaf_node.specs.Fits.{All, cons, Keyed, Light, Ascending, rise-none, rise-one, rise-more, Fits, Proper}
+use Rattle.leaf_node.specs.Fits.{All, cons, Keyed, Fitting, Ascending, rise-none, rise-one, rise-more, Fits, Proper}
 use Rattle.leaf_node.proofs.Reading.{start-in, start-end, pointers-end-before-values, good-pages-are-laid}
 use Rattle.leaf_node.proofs.Lengths.{length-le16, length-values, length-pointers, length-zeros, length-run, all-run}
 pub use Rattle.leaf_node.proofs.Lengths.{body-is-pointers-and-values}
@@ -244,7 +244,7 @@ rise-at (suc (suc m)) i f a k h l =
 
 -- a page whose values are laid and whose records are proper is good
 module _ (size : ℕ) (p : List ℕ) (l : Laid p (count p)) (sized : length p ≡ size) (few : count p ≤ recordLimit size) (first : pointer (count p) ≤ start p 0)
-    (light : All (Light size) (records p)) (rise : Ascending (records p)) where
+    (fitting : All (Fitting size) (records p)) (rise : Ascending (records p)) where
   offset-is : (i : ℕ) → i < count p → offsetAt p i ≡ start p i
   offset-is i h = start-in p (count p) i (offsetAt p i) refl h refl
 
@@ -259,7 +259,7 @@ module _ (size : ℕ) (p : List ℕ) (l : Laid p (count p)) (sized : length p �
   fit : ValuesFit size p
   unfolding records recordsBetween
   fit i h =
-      let a : length (recordAt p i .value) ≤ valueLimit size = all-at (count p - 0) 0 (recordAt p) light i (omega arith) (omega arith) in
+      let a : length (recordAt p i .value) ≤ valueLimit size = all-at (count p - 0) 0 (recordAt p) fitting i (omega arith) (omega arith) in
       omega (arith, value-length p (count p) l i h)
 
   keys : KeysRise p
@@ -276,7 +276,7 @@ a-built-page-is-good size rs w =
     let c = built-count size rs f in
     let r = a-built-page-has-its-records size rs f in
     good size (build size rs) (rw c (built-laid size rs f)) (a-built-page-is-full-length size rs f)
-    (rw c (omega (arith, f .room, body-is-pointers-and-values rs))) (rw (c, built-first size rs f) (omega (arith, fit-gap size rs f))) (rw r (w .light)) (rw r (w .rise))
+    (rw c (omega (arith, f .room, body-is-pointers-and-values rs))) (rw (c, built-first size rs f) (omega (arith, fit-gap size rs f))) (rw r (w .fitting)) (rw r (w .rise))
 
 -- ---- the other way: what the records of a page build
 
@@ -386,9 +386,9 @@ module _ (size : ℕ) (p : List ℕ) (s : PageSize size) (g : Good size p) where
   pub values-size-of-a-good-page-is-a-difference : (from to : ℕ) → from ≤ to → to ≤ count p → valuesSize p from to ≡ start p to - start p from
   values-size-of-a-good-page-is-a-difference from to = values-size-is-a-difference p (count p) (good-pages-are-laid size p s g) from to
 
-  light-run : (m i : ℕ) → i + m ≤ count p → All (Light size) (run m i (recordAt p))
-  light-run m i e =
-      all-run (Light size) m i (recordAt p) (λ j a b. omega (arith, value-length p (count p) (good-pages-are-laid size p s g) j (omega arith), g .values j (omega arith)))
+  fitting-run : (m i : ℕ) → i + m ≤ count p → All (Fitting size) (run m i (recordAt p))
+  fitting-run m i e =
+      all-run (Fitting size) m i (recordAt p) (λ j a b. omega (arith, value-length p (count p) (good-pages-are-laid size p s g) j (omega arith), g .values j (omega arith)))
 
   rise-run : (m i : ℕ) → i + m ≤ count p → Ascending (run m i (recordAt p))
   unfolding run recordAt
@@ -422,6 +422,6 @@ module _ (size : ℕ) (p : List ℕ) (s : PageSize size) (g : Good size p) where
     records-of-a-good-page-are-proper =
         record {
           fits = records-of-a-good-page-fit;
-          light = light-run (to - from) from (omega arith);
+          fitting = fitting-run (to - from) from (omega arith);
           rise = rise-run (to - from) from (omega arith);
         }

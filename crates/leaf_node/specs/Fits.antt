@@ -17,8 +17,8 @@ abbrev pub Keyed : Record → Type 0
 Keyed r = length (r .key) ≡ 32
 
 -- a record whose value a page takes
-abbrev pub Light : ℕ → Record → Type 0
-Light size r = length (r .value) ≤ valueLimit size
+abbrev pub Fitting : ℕ → Record → Type 0
+Fitting size r = length (r .value) ≤ valueLimit size
 
 -- each key is below the next
 pub data Ascending : List Record → Type 0 where
@@ -35,5 +35,5 @@ pub record Fits (size : ℕ) (rs : List Record) : Type 0 where
 -- the records of a good page
 pub record Proper (size : ℕ) (rs : List Record) : Type 0 where
   pub fits : Fits size rs
-  pub light : All (Light size) rs
+  pub fitting : All (Fitting size) rs
   pub rise : Ascending rs

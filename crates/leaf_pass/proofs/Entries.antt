@@ -83,7 +83,7 @@ pub record Standing (b : Bounds) (z : Pass) (from to : ℕ) : Type 0 where
   pub order : from ≤ to
   pub begins : from ≡ z .end
   pub inside : to ≤ b .filled
-  pub light : to - from ≤ b .most
+  pub fitting : to - from ≤ b .most
 
 pub place-of-an-insert : (b : Bounds) (z : Pass) (e : Entry) → insertRight b z e ≡ true → Standing b z (e .from) (e .to)
 unfolding insertRight
@@ -97,7 +97,7 @@ place-of-an-insert b z e h =
       order = leb-true _ _ (and-left (leb (e .from) (e .to)) _ h₁);
       begins = eqb-true _ _ (and-left (eqb (e .from) (z .end)) _ h₂);
       inside = leb-true _ _ (and-left (leb (e .to) (b .filled)) _ h₃);
-      light = leb-true _ _ (and-right (leb (e .to) (b .filled)) (leb (e .to - e .from) (b .most)) h₃);
+      fitting = leb-true _ _ (and-right (leb (e .to) (b .filled)) (leb (e .to - e .from) (b .most)) h₃);
     }
 
 -- a chunk that lies in the passed part is read from a page that has records

@@ -136,12 +136,12 @@ module _ (b : Bounds) (p : List ℕ) where
 
   module _ (size : ℕ) (most-is : b .most ≡ valueLimit size) (store : List ℕ) (fits : b .filled ≤ length store) (low-in : b .low ≤ count p)
       (laid : 0 < count p → Laid p (count p)) (rise : KeysRise p)
-      (light-base : (from to : ℕ) → from ≤ to → to ≤ count p → All (λ r. leb (length (r .value)) (valueLimit size) ≡ true) (recordsBetween p from to)) where
+      (fitting-base : (from to : ℕ) → from ≤ to → to ≤ count p → All (λ r. leb (length (r .value)) (valueLimit size) ≡ true) (recordsBetween p from to)) where
     abbrev recs : List Entry → List Record
     recs es = recordsHeld store p (placesOf p es)
 
-    abbrev Light : Record → Type 0
-    Light r = leb (length (r .value)) (valueLimit size) ≡ true
+    abbrev Fitting : Record → Type 0
+    Fitting r = leb (length (r .value)) (valueLimit size) ≡ true
 
     -- an insert's records, a chunk's records
 
@@ -163,7 +163,7 @@ module _ (b : Bounds) (p : List ℕ) where
       pub ends : placed (y .end) (z .end) es ≡ true
       pub counted : y .count ≡ z .count + length (recs es)
       pub summed : y .bytes ≡ z .bytes + total (recs es)
-      pub light : All Light (recs es)
+      pub fitting : All Fitting (recs es)
       pub rising : rises (isSome (z .count)) (z .last) (recs es) ≡ true
       pub latest : y .last ≡ lastFrom (z .last) (recs es)
       pub inserted : y .inserts ≡ z .inserts + insertsIn es
@@ -200,7 +200,7 @@ module _ (b : Bounds) (p : List ℕ) where
             ends = rw (k, eq-eqb (e .from) (z .end) (s .begins), placed) (c .ends);
             counted = rw (put-records e es k) (omega (arith, c .counted));
             summed = rw (put-records e es k) (omega (arith, c .summed, long));
-            light = rw (put-records e es k) (cons {x = put-record e} (rw long (le-leb (e .to - e .from) (valueLimit size) (omega (arith, s .light, most-is)))) (c .light));
+            fitting = rw (put-records e es k) (cons {x = put-record e} (rw long (le-leb (e .to - e .from) (valueLimit size) (omega (arith, s .fitting, most-is)))) (c .fitting));
             rising = rw (put-records e es k) (and-both {a = behind (isSome (z .count)) (z .last) (e .key)} (rw (← is-behind (z .count) (z .last) (e .key)) near) (rw (some-more (z .count) 1 (omega arith)) at (c .rising)));
             latest = rw (put-records e es k) (c .latest);
             inserted = rw (k, insertsIn) (omega (arith, c .inserted));
@@ -228,7 +228,7 @@ module _ (b : Bounds) (p : List ℕ) where
             ends = rw (k, placed) (c .ends);
             counted = rw (keep-records e es k, length-append (recordsBetween p (e .from) (e .to)) (recs es), long) (omega (arith, c .counted));
             summed = rw (keep-records e es k, total-append (recordsBetween p (e .from) (e .to)) (recs es)) (omega (arith, c .summed, sum));
-            light = rw (keep-records e es k) (all-append (light-base (e .from) (e .to) from-in to-in) (c .light));
+            fitting = rw (keep-records e es k) (all-append (fitting-base (e .from) (e .to) from-in to-in) (c .fitting));
             rising = rw (keep-records e es k)
                 (rises-append (isSome (z .count)) (z .last) (recordsBetween p (e .from) (e .to)) (recs es)
                 (between-rises p rise (e .from) (e .to) (s .some) to-in (isSome (z .count)) (z .last) near)
@@ -245,7 +245,7 @@ module _ (b : Bounds) (p : List ℕ) where
       ends = eq-eqb (z .end) (z .end) refl;
       counted = omega arith;
       summed = omega arith;
-      light = nil;
+      fitting = nil;
       rising = refl;
       latest = refl;
       inserted = omega arith;
@@ -255,15 +255,15 @@ module _ (b : Bounds) (p : List ℕ) where
 
     -- and the other way
 
-    head-light : {x : Record} {xs : List Record} → All Light (x ∷ xs) → Light x
-    head-light (cons a az) = a
+    head-fitting : {x : Record} {xs : List Record} → All Fitting (x ∷ xs) → Fitting x
+    head-fitting (cons a az) = a
 
-    tail-light : {x : Record} {xs : List Record} → All Light (x ∷ xs) → All Light xs
-    tail-light (cons a az) = az
+    tail-fitting : {x : Record} {xs : List Record} → All Fitting (x ∷ xs) → All Fitting xs
+    tail-fitting (cons a az) = az
 
     module _ (z : Pass) {es : List Entry} (ss : All (Shape (b .low) p) es) where
       module _ (from to : ℕ) (key : List ℕ) (flag : Bool) (o : from ≤ to) (h : placed (b .filled) (z .end) (insertAt from to key (bit flag) ∷ es) ≡ true)
-          (li : All Light (recs (insertAt from to key (bit flag) ∷ es))) (ri : rises (isSome (z .count)) (z .last) (recs (insertAt from to key (bit flag) ∷ es)) ≡ true) where
+          (li : All Fitting (recs (insertAt from to key (bit flag) ∷ es))) (ri : rises (isSome (z .count)) (z .last) (recs (insertAt from to key (bit flag) ∷ es)) ≡ true) where
         abbrev e₁ : Entry
         e₁ = insertAt from to key (bit flag)
 
@@ -273,7 +273,7 @@ module _ (b : Bounds) (p : List ℕ) where
         inside : to ≤ b .filled
         inside = placed-upto (b .filled) to ss next-placed
 
-        li₁ : All Light (put-record e₁ ∷ recs es)
+        li₁ : All Fitting (put-record e₁ ∷ recs es)
         li₁ = rw (put-records e₁ es refl) at li
 
         ri₁ : rises (isSome (z .count)) (z .last) (put-record e₁ ∷ recs es) ≡ true
@@ -283,10 +283,10 @@ module _ (b : Bounds) (p : List ℕ) where
         unfolding insertRight put-record
         insert-is-right =
             let long : length (take (to - from) (drop from store)) ≡ to - from = value-long (b .low) store p (b .filled) fits from to o inside in
-            let light : to - from ≤ b .most = omega (arith, long, most-is, leb-true (length (take (to - from) (drop from store))) (valueLimit size) (head-light li₁)) in
+            let fitting : to - from ≤ b .most = omega (arith, long, most-is, leb-true (length (take (to - from) (drop from store))) (valueLimit size) (head-fitting li₁)) in
             and-both (and-both (le-leb from to o) (le-leb (bit flag) 1 (bit-small flag)))
             (and-both
-            (and-both (eq-eqb from (z .end) (placed-head (b .filled) (z .end) from to key (bit flag) es h .0)) (and-both (le-leb to (b .filled) inside) (le-leb (to - from) (b .most) light)))
+            (and-both (eq-eqb from (z .end) (placed-head (b .filled) (z .end) from to key (bit flag) es h .0)) (and-both (le-leb to (b .filled) inside) (le-leb (to - from) (b .most) fitting)))
             (rw (is-behind (z .count) (z .last) key) (and-left (behind (isSome (z .count)) (z .last) key) _ ri₁)))
 
         next-rising : rises (isSome (z .count + 1)) key (recs es) ≡ true
@@ -294,7 +294,7 @@ module _ (b : Bounds) (p : List ℕ) where
         next-rising = rw (some-more (z .count) 1 (omega arith)) (and-right (behind (isSome (z .count)) (z .last) key) _ ri₁)
 
       module _ (from to : ℕ) (l : from < to) (m : to ≤ b .low)
-          (li : All Light (recs (chunkOf from to (valuesSize p from to) ∷ es))) (ri : rises (isSome (z .count)) (z .last) (recs (chunkOf from to (valuesSize p from to) ∷ es)) ≡ true) where
+          (li : All Fitting (recs (chunkOf from to (valuesSize p from to) ∷ es))) (ri : rises (isSome (z .count)) (z .last) (recs (chunkOf from to (valuesSize p from to) ∷ es)) ≡ true) where
         abbrev e₂ : Entry
         e₂ = chunkOf from to (valuesSize p from to)
 
@@ -304,7 +304,7 @@ module _ (b : Bounds) (p : List ℕ) where
         to-in : to ≤ count p
         to-in = omega (arith, low-in)
 
-        li₂ : All Light (cs ++ recs es)
+        li₂ : All Fitting (cs ++ recs es)
         li₂ = rw (keep-records e₂ es refl) at li
 
         ri₂ : rises (isSome (z .count)) (z .last) (cs ++ recs es) ≡ true
@@ -323,11 +323,11 @@ module _ (b : Bounds) (p : List ℕ) where
             let again : (isSome (z .count) || nonempty cs) ≡ isSome (z .count + (to - from)) = rw (between-some p rise from to l to-in, some-more (z .count) (to - from) (omega arith)) (or-true (isSome (z .count))) in
             rw (← again, ← between-last p rise from to l to-in (z .last)) (rises-right (isSome (z .count)) (z .last) cs (recs es) ri₂)
 
-    pub to-walk : (z : Pass) {es : List Entry} → All (Shape (b .low) p) es → placed (b .filled) (z .end) es ≡ true → All Light (recs es)
+    pub to-walk : (z : Pass) {es : List Entry} → All (Shape (b .low) p) es → placed (b .filled) (z .end) es ≡ true → All Fitting (recs es)
         → rises (isSome (z .count)) (z .last) (recs es) ≡ true → (y : Pass) × Walk z es y
     to-walk z nil h li ri = (z, stop)
     to-walk z (cons {xs = es} (insert from to key flag o) ss) h li ri =
-        let r = to-walk (withInsert z (insertAt from to key (bit flag))) ss (next-placed z ss from to key flag o h li ri) (tail-light (li₁ z ss from to key flag o h li ri)) (next-rising z ss from to key flag o h li ri) in
+        let r = to-walk (withInsert z (insertAt from to key (bit flag))) ss (next-placed z ss from to key flag o h li ri) (tail-fitting (li₁ z ss from to key flag o h li ri)) (next-rising z ss from to key flag o h li ri) in
         (r .0, take-insert {e = insertAt from to key (bit flag)} refl (insert-is-right z ss from to key flag o h li ri) (r .1))
     to-walk z (cons {xs = es} (keep from to l m) ss) h li ri =
         let r = to-walk (withChunk p z (chunkOf from to (valuesSize p from to))) ss h (all-right (recordsBetween p from to) (recs es) (li₂ z ss from to l m li ri)) (next-rising₂ z ss from to l m li ri) in

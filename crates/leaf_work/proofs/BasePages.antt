@@ -12,7 +12,7 @@ use Rattle.leaf_node.specs.Limits.{PageSize, bodyLimit, recordLimit}
 use Rattle.leaf_node.specs.Record.{Record, total}
 use Rattle.leaf_node.specs.Page.{count, records}
 use Rattle.leaf_node.specs.Good.{Good, pageVerdict}
-use Rattle.leaf_node.specs.Fits.{All, nil, cons, Keyed, Light, Ascending, rise-none, rise-one, rise-more, Proper}
+use Rattle.leaf_node.specs.Fits.{All, nil, cons, Keyed, Fitting, Ascending, rise-none, rise-one, rise-more, Proper}
 use Rattle.leaf_node.proofs.Verdicts.{accepted-pages-are-the-good-ones}
 use Rattle.leaf_node.proofs.Reading.{good-pages-are-laid}
 use Rattle.leaf_node.proofs.Laying.{range-length}
@@ -29,7 +29,7 @@ rise-test rise-one = refl
 rise-test (rise-more {r} {s} h a) = and-both (test-of-lt (r .key) (s .key) h) (rise-test a)
 
 within-test : (size : ℕ) (s : List ℕ) (c : Option (List ℕ)) {xs : List Record} → All (λ r. (not (ltKey (r .key) s) && belowCutoff c (r .key)) ≡ true) xs
-    → All (Light size) xs → All Keyed xs → withinBounds size s c xs ≡ true
+    → All (Fitting size) xs → All Keyed xs → withinBounds size s c xs ≡ true
 within-test size s c nil nil nil = refl
 within-test size s c (cons {x = r} a az) (cons l ls) (cons k ks) =
     and-both (and-left (not (ltKey (r .key) s)) _ a)
@@ -70,7 +70,7 @@ module _ (size : ℕ) (q : PageSize size) (page sep : List ℕ) (cut : Option (L
       let a = all-proper size q page base-page-is-good in
       and-both separator-below-cutoff
       (and-both (rise-test (a .rise))
-      (within-test size sep cut (every-all _ (records page) (and-right (belowCutoff cut sep) _ (base-parts .1))) (a .light) (a .fits .keys)))
+      (within-test size sep cut (every-all _ (records page) (and-right (belowCutoff cut sep) _ (base-parts .1))) (a .fitting) (a .fits .keys)))
 
   -- what the calls after it test is less
   pub lent-again-the-page-passes : keysVerdict size page sep cut ≡ 0

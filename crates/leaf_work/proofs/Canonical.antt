@@ -39,7 +39,7 @@ use Rattle.leaf_work.proofs.Soundness.{the-work-is-sound}
 use Rattle.leaf_work.proofs.SoundMeans.{Clauses}
 use Rattle.leaf_work.proofs.Decoding.{opsOf}
 use Rattle.leaf_work.proofs.Readiness as accepted
-use Rattle.leaf_work.proofs.PendingRecords.{EntryKeyed, pending-keys-have-32-bytes, pending-values-are-light}
+use Rattle.leaf_work.proofs.PendingRecords.{EntryKeyed, pending-keys-have-32-bytes, pending-values-are-fitting}
 
 -- a work with the page that it is lent, the leaves g given out before and the tally t
 pub record Canonical (size : ℕ) (w : Work) (list : List Entry) (store page : List ℕ) (g : List Leaf) (t : List Record) : Type 0 where
@@ -268,7 +268,7 @@ module _ (size : ℕ) (q : PageSize size) (w : Work) (list : List Entry) (store 
       override-has-records = override-has-records;
       above-separator = all-map (λ r h. le-of-not (separatorOf w) (r .key) (and-left (not (ltKey (r .key) (separatorOf w))) _ h)) bounds;
       below-cutoff = all-map (λ r h. and-right (not (ltKey (r .key) (separatorOf w))) (belowCutoff (cutoffOf w) (r .key)) h) bounds;
-      light = pending-values-are-light size q w list store page z;
+      fitting = pending-values-are-fitting size q w list store page z;
       key-lengths = all-map (λ r h. eq-eqb (length (r .key)) 32 h) (pending-keys-have-32-bytes size q w list store page z (all-take EntryKeyed (w .used) list entries));
       floor-above-separator = le-of-not (separatorOf w) (w .floor) (and-left (not (ltKey (w .floor) (separatorOf w))) _ (c .floor-above));
       floor-above-latest = le-of-not (w .latest) (w .floor) (and-right (not (ltKey (w .floor) (separatorOf w))) (not (ltKey (w .floor) (w .latest))) (c .floor-above));

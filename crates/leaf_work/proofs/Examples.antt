@@ -166,7 +166,7 @@ pub record EachClause : Type 0 where
   pub rest-above-last : verdict (work 1 1 0 0 0 0 0 z 0 z 0 z z 1 (keyOf 10)) [] threeRecords ≡ 8
   pub listed-past : verdict (work 1 0 0 1 0 1 0 z 0 z 0 z z 0 z) (inserts (5 ∷ [])) [] ≡ 8
   pub passed-part : verdict (work 1 0 1 0 0 0 0 z 0 z 0 z z 0 z) [] [] ≡ 8
-  pub light-values : verdict (work 1 0 0 1 35 1 35 z 0 z 0 z z 1 (keyOf 9)) (insertAt 0 35 (keyOf 9) 0 ∷ []) [] ≡ 8
+  pub fitting-values : verdict (work 1 0 0 1 35 1 35 z 0 z 0 z z 1 (keyOf 9)) (insertAt 0 35 (keyOf 9) 0 ∷ []) [] ≡ 8
   pub gauge : verdict (work 1 0 0 0 0 1 0 z 0 z 0 z z 0 z) [] [] ≡ 8
   pub bounds : verdict (work 1 1 0 1 0 1 0 (keyOf 10) 0 z 0 z (keyOf 10) 0 z) (inserts (5 ∷ [])) emptyPage ≡ 8
   pub last-below-cutoff : verdict (work 1 1 0 0 0 0 0 z 1 (keyOf 50) 0 z z 1 (keyOf 60)) [] emptyPage ≡ 8
@@ -198,7 +198,7 @@ each-clause-of-soundness-refuses-a-work = record {
   rest-above-last = refl;
   listed-past = refl;
   passed-part = refl;
-  light-values = refl;
+  fitting-values = refl;
   gauge = refl;
   bounds = refl;
   last-below-cutoff = refl;

@@ -8,7 +8,7 @@ use lib.ListN.{length, take}
 use borrow.Author.Tests.{leb-true}
 use Rattle.leaf_node.specs.Limits.{valueLimit, PageSize}
 use Rattle.leaf_node.specs.Page.{count, run, recordsBetween}
-use Rattle.leaf_node.specs.Fits.{All, nil, cons, Keyed, Light}
+use Rattle.leaf_node.specs.Fits.{All, nil, cons, Keyed, Fitting}
 use Rattle.leaf_node.proofs.RoundTrips.{records-of-a-good-page-are-proper}
 use Rattle.leaf_model.proofs.Lists.{all-append, all-map}
 use Rattle.leaf_work.specs.declared.Work.{Work}
@@ -39,15 +39,15 @@ module _ (size : ℕ) (q : PageSize size) (w : Work) (list : List Entry) (store 
   low-in = laid size w list store page z .low-in
 
   -- the base is a good page, or none of it
-  base-proper : (from to : ℕ) → from ≤ to → to ≤ count base → All Keyed (recordsBetween base from to) × All (Light size) (recordsBetween base from to)
+  base-proper : (from to : ℕ) → from ≤ to → to ≤ count base → All Keyed (recordsBetween base from to) × All (Fitting size) (recordsBetween base from to)
   unfolding recordsBetween run
   base-proper from to o h = go (readsBase w) refl h
     where
       go : (b : Bool) → readsBase w ≡ b → to ≤ count (oneOf b page [])
-          → All Keyed (recordsBetween (oneOf b page []) from to) × All (Light size) (recordsBetween (oneOf b page []) from to)
+          → All Keyed (recordsBetween (oneOf b page []) from to) × All (Fitting size) (recordsBetween (oneOf b page []) from to)
       go true e h =
           let a = records-of-a-good-page-are-proper size page q (lent-page-is-good size page (w .latest) (cutoffOf w) (base-right size w list store page z e)) from to o h in
-          (a .fits .keys, a .light)
+          (a .fits .keys, a .fitting)
       go false e h = let y : to - from ≡ 0 = omega (arith, an-ignored-page-has-no-records) in rw y (nil, nil)
 
   ops-keyed : {es : List Entry} → All EntryKeyed es → All (Shape (w .low) base) es → All Keyed (recordsOfOps base (opsOf store es))
@@ -62,7 +62,7 @@ module _ (size : ℕ) (q : PageSize size) (w : Work) (list : List Entry) (store 
       let b : All Keyed (restOf w store base) = rw rest-are (base-proper (w .low) (count base) low-in (omega arith) .0) in
       all-append a b
 
-  pub pending-values-are-light : All (Light size) (listedOf w list store (regarded w page) ++ restOf w store (regarded w page))
-  pending-values-are-light =
-      all-append (all-map (λ r e. leb-true (length (r .value)) (valueLimit size) e) (every-all _ (listedOf w list store base) (c size w list store page z .listed-light)))
+  pub pending-values-are-fitting : All (Fitting size) (listedOf w list store (regarded w page) ++ restOf w store (regarded w page))
+  pending-values-are-fitting =
+      all-append (all-map (λ r e. leb-true (length (r .value)) (valueLimit size) e) (every-all _ (listedOf w list store base) (c size w list store page z .listed-fitting)))
       (rw rest-are (base-proper (w .low) (count base) low-in (omega arith) .1))

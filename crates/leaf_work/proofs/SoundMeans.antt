@@ -6,7 +6,7 @@ use Prim.Native.Nat.{ℕ}
 use Rattle.leaf_node.specs.Fits.{All, nil, cons}
 use Rattle.leaf_work.specs.declared.Work.{Work}
 use Rattle.leaf_work.specs.declared.Entry.{Entry}
-use Rattle.leaf_work.specs.Sound.{knownTurn, knownFlags, operations, stored, roomy, risen, restAbove, listedPast, passedPart, listedLight, gauged, bounded, lastBelow, cutoffRight, overrideRight, waitingRight, doneRight, floorAbove, floorAtTurn, absentZero, sound}
+use Rattle.leaf_work.specs.Sound.{knownTurn, knownFlags, operations, stored, roomy, risen, restAbove, listedPast, passedPart, listedFits, gauged, bounded, lastBelow, cutoffRight, overrideRight, waitingRight, doneRight, floorAbove, floorAtTurn, absentZero, sound}
 use Rattle.leaf_work.proofs.Tests.{every-all, all-every}
 
 module _ (size : ℕ) (w : Work) (list : List Entry) (store p : List ℕ) where
@@ -20,7 +20,7 @@ module _ (size : ℕ) (w : Work) (list : List Entry) (store p : List ℕ) where
     pub rest-above : restAbove size w list store p ≡ true
     pub listed-past : listedPast size w list store p ≡ true
     pub passed-part : passedPart size w list store p ≡ true
-    pub listed-light : listedLight size w list store p ≡ true
+    pub listed-fitting : listedFits size w list store p ≡ true
     pub gauge-right : gauged size w list store p ≡ true
     pub keys-bounded : bounded size w list store p ≡ true
     pub last-below : lastBelow w ≡ true
@@ -46,7 +46,7 @@ module _ (size : ℕ) (w : Work) (list : List Entry) (store p : List ℕ) where
           ∷ restAbove size w list store p
           ∷ listedPast size w list store p
           ∷ passedPart size w list store p
-          ∷ listedLight size w list store p
+          ∷ listedFits size w list store p
           ∷ gauged size w list store p
           ∷ bounded size w list store p
           ∷ lastBelow w
@@ -70,7 +70,7 @@ module _ (size : ℕ) (w : Work) (list : List Entry) (store p : List ℕ) where
             rest-above = c7;
             listed-past = c8;
             passed-part = c9;
-            listed-light = c10;
+            listed-fitting = c10;
             gauge-right = c11;
             keys-bounded = c12;
             last-below = c13;
@@ -96,7 +96,7 @@ module _ (size : ℕ) (w : Work) (list : List Entry) (store p : List ℕ) where
       (cons (c .rest-above)
       (cons (c .listed-past)
       (cons (c .passed-part)
-      (cons (c .listed-light)
+      (cons (c .listed-fitting)
       (cons (c .gauge-right)
       (cons (c .keys-bounded)
       (cons (c .last-below)

@@ -25,7 +25,7 @@ use Rattle.leaf_work.specs.declared.Entry.{Entry}
 use Rattle.leaf_work.specs.Tests.{every, isZero, isSet, keyIf}
 use Rattle.leaf_work.specs.Lent.{blank, turnNumber, isOpen, isWaiting, isDone, readsBase}
 use Rattle.leaf_work.specs.Pending.{listedOf, restOf, pendingOf}
-use Rattle.leaf_work.specs.Sound.{isBlank, isOperation, placed, anInsert, letsIn, pastAll, knownFlags, operations, stored, risen, listedLight, gauged, bounded, cutoffRight, overrideRight, waitingRight, doneRight, floorAbove, floorAtTurn, absentZero, sound}
+use Rattle.leaf_work.specs.Sound.{isBlank, isOperation, placed, anInsert, letsIn, pastAll, knownFlags, operations, stored, risen, listedFits, gauged, bounded, cutoffRight, overrideRight, waitingRight, doneRight, floorAbove, floorAtTurn, absentZero, sound}
 use Rattle.leaf_work.proofs.Tests.{and-both, not-true, implies-if, all-every, all-replicate, same-bytes, key-is-there}
 use Rattle.leaf_work.proofs.Operations.{Op, ops-right, ops-placed, some-insert, all-inserts}
 use Rattle.leaf_work.proofs.Laid.{Laid, Kept, turnOf, waiting-turn, done-turn, waiting-is-not-open, an-ignored-page-has-no-records, list-length, store-length, used-entries, blank-entries, blank-bytes, listed-is, pending-parts, seesWork}
@@ -99,8 +99,8 @@ module _ (size : ℕ) (w : Work) (list : List Entry) (store p page : List ℕ) (
       let u : Rising (listedOf w list store p ++ restOf w store p) = rising-right (recordsOf g) _ (rw (v .tally) (v .rising)) in
       rw (pending-parts w list store p) (rising-test u)
 
-  values-light : listedLight size w list store p ≡ true
-  values-light = all-every _ (all-map (λ r h. le-leb (length (r .value)) (valueLimit size) h) (all-left (listedOf w list store p) (restOf w store p) (v .light)))
+  values-fitting : listedFits size w list store p ≡ true
+  values-fitting = all-every _ (all-map (λ r h. le-leb (length (r .value)) (valueLimit size) h) (all-left (listedOf w list store p) (restOf w store p) (v .fitting)))
 
   gauge-right : gauged size w list store p ≡ true
   gauge-right =
@@ -169,7 +169,7 @@ module _ (size : ℕ) (w : Work) (list : List Entry) (store p page : List ℕ) (
       (cons (all-every _ (k .rest-above))
       (cons (past-test w (listedOf w list store p) (listed-keys-are-past size (seesWork w list store p) g t v))
       (cons (le-leb (w .low) (count p) (l .low-in))
-      (cons values-light
+      (cons values-fitting
       (cons gauge-right
       (cons keys-bounded
       (cons (implies-if (isSet (w .taken)) _ (k .last-below))

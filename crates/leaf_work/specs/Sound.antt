@@ -132,8 +132,8 @@ module _ (size : ℕ) (w : Work) (list : List Entry) (store page : List ℕ) whe
   passedPart = leb (w .low) (count page)
 
   -- "listed values are at most 1,332 bytes"
-  abbrev pub listedLight : Bool
-  listedLight = every (λ r. leb (length (r .value)) (valueLimit size)) (listedOf w list store page)
+  abbrev pub listedFits : Bool
+  listedFits = every (λ r. leb (length (r .value)) (valueLimit size)) (listedOf w list store page)
 
   -- "counts and sums agree"
   abbrev pub gauged : Bool
@@ -171,7 +171,7 @@ module _ (size : ℕ) (w : Work) (list : List Entry) (store page : List ℕ) whe
       ∷ restAbove
       ∷ listedPast
       ∷ passedPart
-      ∷ listedLight
+      ∷ listedFits
       ∷ gauged
       ∷ bounded
       ∷ lastBelow w

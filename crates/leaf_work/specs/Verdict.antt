@@ -11,7 +11,7 @@ use Rattle.leaf_node.specs.Limits.{pagesAsked}
 use Rattle.leaf_node.specs.Record.{Record, body, total}
 use Rattle.leaf_node.specs.Page.{records}
 use Rattle.leaf_node.specs.Good.{pageVerdict}
-use Rattle.leaf_model.specs.Work.{Change, belowCutoff, lightChange}
+use Rattle.leaf_model.specs.Work.{Change, belowCutoff, changeFits}
 use Rattle.leaf_work.specs.declared.Work.{Work}
 use Rattle.leaf_work.specs.declared.Entry.{Entry}
 use Rattle.leaf_work.specs.Tests.{every, oneOf, isSet, keyIf}
@@ -67,7 +67,7 @@ unfoldable pub ingestVerdict : ℕ → Work → List Entry → List ℕ → List
 ingestVerdict size w list store page k c lent =
     first lent
     (unless outOfTurn (isOpen w)
-    (unless longValue (lightChange size c)
+    (unless longValue (changeFits size c)
     (unless keyTooLow (letsIn w k)
     (unless keyPastCutoff (belowCutoff (cutoffOf w) k)
     (unless listFull (leb (countAfter w page k c + length (restAfter w page k)) (length list))

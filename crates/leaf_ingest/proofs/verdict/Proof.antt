@@ -1,6 +1,6 @@
 -- `leaf_ingest::verdict` meets its contract.
 -- Assumes nothing.
-use Rattle.leaf_ingest.proofs.Numbers.{a-work-that-is-not-open-is-out-of-turn, a-long-value-has-number-12, a-low-key-has-number-13, a-key-past-the-cutoff-has-number-14, the-room-decides, a-light-value-is-short}
+use Rattle.leaf_ingest.proofs.Numbers.{a-work-that-is-not-open-is-out-of-turn, a-long-value-has-number-12, a-low-key-has-number-13, a-key-past-the-cutoff-has-number-14, the-room-decides, a-fitting-value-is-short}
 use borrow.Author.Needs.{needs}
 use Rattle.leaf_ingest.proofs.verdict.Statement.{statement}
 use Rattle.leaf_ingest.proofs.verdict.Tie as tie
@@ -30,7 +30,7 @@ returns-4 : tie.Need-returns-4
 returns-4 c = search (a-key-past-the-cutoff-has-number-14, needs)
 
 room-verdict-requires : tie.Need-room-verdict-requires
-room-verdict-requires c κs = (search needs, search needs, search needs, search (a-light-value-is-short, needs))
+room-verdict-requires c κs = (search needs, search needs, search needs, search (a-fitting-value-is-short, needs))
 
 returns-5 : tie.Need-returns-5
 returns-5 c = search (the-room-decides, needs)
