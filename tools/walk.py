@@ -39,20 +39,14 @@ class Context:
         self.names.pop(0)
         return "drop ! $"
 
-    def forget(self, locals_):
-        """These locals are no longer set."""
-        return " ".join(f"forget ! {self.at(f'_{k}')} refl $" for k in locals_)
-
-    def free(self, count):
-        """All locals are given back, the first one first."""
-        commands = []
-        for k in range(count):
-            pair = (f"_{k}", f"†{k}")
-            if self.names[:2] != list(pair):
-                commands.append(self.move(*pair))
-            self.replace(2)
-            commands.append("free1 ! $")
-        return " ".join(commands + ["free0 ! $"])
+    def freed(self, count, held):
+        """All locals are given back in one step, those in `held` with what they hold. They stand behind all else, the last one first."""
+        locals_ = [n for k in reversed(range(count)) for n in (f"_{k}", f"†{k}")]
+        front = len(self.names) - len(locals_)
+        assert self.names[front:] == locals_, "the locals are not in their places"
+        self.names = self.names[:front]
+        values = ["set _" if k in held else "none" for k in range(max(held) + 1)]
+        return f"all-freed W {listed(['_'] * front)} {listed(values)} $"
 
 
 def listed(places):
