@@ -185,12 +185,12 @@ pub fn next_base(
 ) -> Updated
     ensures { λ r. ⌜ (let o : Changed = nextBaseOf 4096 work (listOf (now (rows .entry)) (now (keys .entry))) (now (store .entry)) (now (page .entry)) (now (separator .entry)) (isSet cut) (now (cutoff .entry)) in (r .refusal ≡ replyNumber (o .reply)) × (r .work ≡ o .work)) ⌝ }
 {
-    leaf_open::next_base(work, rows, keys, store, page, separator, cut != 0, cutoff)
+    leaf_again::next_base(work, rows, keys, store, page, separator, cut != 0, cutoff)
 }
 
 // Removes the cutoff of a work that waits.
 pub fn remove_cutoff(work: Work, rows: &[[usize; 5]], keys: &[[u8; 32]], store: &[u8]) -> Updated
     ensures { λ r. ⌜ (let o : Changed = removeCutoffOf 4096 work (listOf (now (rows .entry)) (now (keys .entry))) (now (store .entry)) in (r .refusal ≡ replyNumber (o .reply)) × (r .work ≡ o .work)) ⌝ }
 {
-    leaf_open::remove_cutoff(work, rows, keys, store)
+    leaf_again::remove_cutoff(work, rows, keys, store)
 }

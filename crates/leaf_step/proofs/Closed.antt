@@ -22,8 +22,8 @@ use Rattle.leaf_base.proofs.Bases.{first-refused}
 use Rattle.leaf_work.proofs.BasePages.{base-page-is-good}
 use Rattle.leaf_pass.specs.Pass.{Seeing}
 use Rattle.leaf_check.specs.Settled.{boundsOf}
-use Rattle.leaf_open.specs.Again.{closedVerdict, followsVerdict}
-use Rattle.leaf_open.proofs.Again.{next-base-by-steps, closed-room, the-work-comes-before-the-turn, a-work-that-does-not-wait-is-out-of-turn, a-waiting-work-is-accepted}
+use Rattle.leaf_again.specs.Again.{closedVerdict, followsVerdict}
+use Rattle.leaf_again.proofs.Again.{next-base-by-steps, closed-room, the-work-comes-before-the-turn, a-work-that-does-not-wait-is-out-of-turn, a-waiting-work-is-accepted}
 use Rattle.leaf_passed.specs.declared.Passing.{Passing}
 use Rattle.leaf_passed.specs.Passed.{PassingOn, beginning, closedBeginning, passedOver, closedAt}
 use Rattle.leaf_passed.proofs.Verdicts.{the-reading-stays, the-bounds-stay, a-pass-tells-a-closed-refusal}

@@ -1,15 +1,15 @@
 // The calls on a work by value: each takes what the pass over its list came to, and the list's length, so that the list may have any form.
+use leaf_again::follows_verdict;
+use leaf_again::next_base_work;
+use leaf_again::remove_work;
+use leaf_again::reply_of;
 use leaf_base::base_verdict;
 use leaf_check::regard;
 use leaf_move::settle_bytes;
 use leaf_node::PAGE_SIZE;
 use leaf_open::Updated;
-use leaf_open::follows_verdict;
 use leaf_open::fresh_work;
-use leaf_open::next_base_work;
 use leaf_open::open_base_verdict;
-use leaf_open::remove_work;
-use leaf_open::reply_of;
 use leaf_passed::Passing;
 use leaf_passed::Seek;
 use leaf_passed::begin_closed;

@@ -1,6 +1,6 @@
 -- `leaf_step::next_base_step` meets its contract.
 -- Assumes nothing.
-use Rattle.leaf_open.proofs.Again.{next-base-is}
+use Rattle.leaf_again.proofs.Again.{next-base-is}
 use borrow.Author.Needs.{needs}
 use Rattle.leaf_step.proofs.next_base_step.Statement.{statement}
 use Rattle.leaf_step.proofs.next_base_step.Tie as tie

@@ -1,6 +1,6 @@
 -- `leaf_step::remove_step` meets its contract.
 -- Assumes nothing.
-use Rattle.leaf_open.proofs.Again.{removal-is}
+use Rattle.leaf_again.proofs.Again.{removal-is}
 use borrow.Author.Needs.{needs}
 use Rattle.leaf_step.proofs.remove_step.Statement.{statement}
 use Rattle.leaf_step.proofs.remove_step.Tie as tie

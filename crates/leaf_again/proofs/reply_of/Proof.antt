@@ -1,8 +1,8 @@
--- `leaf_open::reply_of` meets its contract.
+-- `leaf_again::reply_of` meets its contract.
 -- Assumes nothing.
-use Rattle.leaf_open.proofs.Again.{a-refused-call-changes-nothing, an-accepted-call-changes-the-work}
-use Rattle.leaf_open.proofs.reply_of.Statement.{statement}
-use Rattle.leaf_open.proofs.reply_of.Tie as tie
+use Rattle.leaf_again.proofs.Again.{a-refused-call-changes-nothing, an-accepted-call-changes-the-work}
+use Rattle.leaf_again.proofs.reply_of.Statement.{statement}
+use Rattle.leaf_again.proofs.reply_of.Tie as tie
 
 returns : tie.Need-returns
 returns c = let args = c .before .args in a-refused-call-changes-nothing (args .number) (args .work) (args .after) (c .if1 .taken)

@@ -1,9 +1,9 @@
--- `leaf_open::closed_verdict` meets its contract.
+-- `leaf_again::closed_verdict` meets its contract.
 -- Assumes nothing.
-use Rattle.leaf_open.proofs.Again.{wrong-room-comes-first, an-open-work-is-out-of-turn, an-unsound-work-is-refused, a-sound-work-passes, no-bytes-are-regardable, then-rows-and-keys-are-as-many, then-rows-are-few, then-the-store-is-short}
+use Rattle.leaf_again.proofs.Again.{wrong-room-comes-first, an-open-work-is-out-of-turn, an-unsound-work-is-refused, a-sound-work-passes, no-bytes-are-regardable, then-rows-and-keys-are-as-many, then-rows-are-few, then-the-store-is-short}
 use borrow.Author.Needs.{needs}
-use Rattle.leaf_open.proofs.closed_verdict.Statement.{statement}
-use Rattle.leaf_open.proofs.closed_verdict.Tie as tie
+use Rattle.leaf_again.proofs.closed_verdict.Statement.{statement}
+use Rattle.leaf_again.proofs.closed_verdict.Tie as tie
 
 room-right-requires : tie.Need-room-right-requires
 room-right-requires c κs = search needs

@@ -28,7 +28,7 @@ use Rattle.leaf_work.proofs.BasePages.{base-page-is-good}
 use Rattle.leaf_check.specs.Settled.{Regardable}
 use Rattle.leaf_base.proofs.Bases.{first-refused}
 use Rattle.leaf_base.proofs.Rooms.{the-list-is-as-long-as-its-rows, rows-and-keys-are-as-many, the-rows-outnumber-a-page, right-room-is-a-list-and-a-store}
-use Rattle.leaf_open.specs.Again.{closedVerdict, followsVerdict}
+use Rattle.leaf_again.specs.Again.{closedVerdict, followsVerdict}
 
 -- ---- room, turn and soundness
 

@@ -1,9 +1,9 @@
--- `leaf_open::follows_verdict` meets its contract.
+-- `leaf_again::follows_verdict` meets its contract.
 -- Assumes nothing.
-use Rattle.leaf_open.proofs.Again.{laid-by-its-count, no-cutoff-is-out-of-turn, a-low-separator-has-number-13, a-full-list-has-number-15, a-full-store-has-number-16, what-has-room-follows}
+use Rattle.leaf_again.proofs.Again.{laid-by-its-count, no-cutoff-is-out-of-turn, a-low-separator-has-number-13, a-full-list-has-number-15, a-full-store-has-number-16, what-has-room-follows}
 use borrow.Author.Needs.{needs}
-use Rattle.leaf_open.proofs.follows_verdict.Statement.{statement}
-use Rattle.leaf_open.proofs.follows_verdict.Tie as tie
+use Rattle.leaf_again.proofs.follows_verdict.Statement.{statement}
+use Rattle.leaf_again.proofs.follows_verdict.Tie as tie
 
 returns : tie.Need-returns
 returns c = search (no-cutoff-is-out-of-turn, needs)

@@ -1,9 +1,9 @@
--- `leaf_open::remove_verdict` meets its contract.
+-- `leaf_again::remove_verdict` meets its contract.
 -- Assumes nothing.
-use Rattle.leaf_open.proofs.Again.{the-work-comes-before-the-turn, a-work-that-does-not-wait-is-out-of-turn, a-waiting-work-is-accepted}
+use Rattle.leaf_again.proofs.Again.{the-work-comes-before-the-turn, a-work-that-does-not-wait-is-out-of-turn, a-waiting-work-is-accepted}
 use borrow.Author.Needs.{needs}
-use Rattle.leaf_open.proofs.remove_verdict.Statement.{statement}
-use Rattle.leaf_open.proofs.remove_verdict.Tie as tie
+use Rattle.leaf_again.proofs.remove_verdict.Statement.{statement}
+use Rattle.leaf_again.proofs.remove_verdict.Tie as tie
 
 closed-verdict-requires : tie.Need-closed-verdict-requires
 closed-verdict-requires c κs = search needs

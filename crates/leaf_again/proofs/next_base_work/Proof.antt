@@ -1,9 +1,9 @@
--- `leaf_open::next_base_work` meets its contract.
+-- `leaf_again::next_base_work` meets its contract.
 -- Assumes nothing.
-use Rattle.leaf_open.proofs.Again.{next-base-work-is}
+use Rattle.leaf_again.proofs.Again.{next-base-work-is}
 use borrow.Author.Needs.{needs}
-use Rattle.leaf_open.proofs.next_base_work.Statement.{statement}
-use Rattle.leaf_open.proofs.next_base_work.Tie as tie
+use Rattle.leaf_again.proofs.next_base_work.Statement.{statement}
+use Rattle.leaf_again.proofs.next_base_work.Tie as tie
 
 key-or-zeros-requires : tie.Need-key-or-zeros-requires
 key-or-zeros-requires c κs = search needs

@@ -1,9 +1,9 @@
--- `leaf_open::next_base` meets its contract.
+-- `leaf_again::next_base` meets its contract.
 -- Assumes nothing.
-use Rattle.leaf_open.proofs.Again.{next-base-is}
+use Rattle.leaf_again.proofs.Again.{next-base-is}
 use borrow.Author.Needs.{needs}
-use Rattle.leaf_open.proofs.next_base.Statement.{statement}
-use Rattle.leaf_open.proofs.next_base.Tie as tie
+use Rattle.leaf_again.proofs.next_base.Statement.{statement}
+use Rattle.leaf_again.proofs.next_base.Tie as tie
 
 next-base-verdict-requires : tie.Need-next-base-verdict-requires
 next-base-verdict-requires c κs = search needs

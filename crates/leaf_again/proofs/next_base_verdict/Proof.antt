@@ -1,9 +1,9 @@
--- `leaf_open::next_base_verdict` meets its contract.
+-- `leaf_again::next_base_verdict` meets its contract.
 -- Assumes nothing.
-use Rattle.leaf_open.proofs.Again.{the-new-base-comes-first, the-work-comes-before-what-follows, then-the-page-decides, a-new-base-is-laid, a-new-base-has-fewer-records-than-the-list, a-new-base-is-no-longer-than-the-store}
+use Rattle.leaf_again.proofs.Again.{the-new-base-comes-first, the-work-comes-before-what-follows, then-the-page-decides, a-new-base-is-laid, a-new-base-has-fewer-records-than-the-list, a-new-base-is-no-longer-than-the-store}
 use borrow.Author.Needs.{needs}
-use Rattle.leaf_open.proofs.next_base_verdict.Statement.{statement}
-use Rattle.leaf_open.proofs.next_base_verdict.Tie as tie
+use Rattle.leaf_again.proofs.next_base_verdict.Statement.{statement}
+use Rattle.leaf_again.proofs.next_base_verdict.Tie as tie
 
 base-verdict-requires : tie.Need-base-verdict-requires
 base-verdict-requires c κs = search needs

@@ -1,9 +1,9 @@
--- `leaf_open::remove_cutoff` meets its contract.
+-- `leaf_again::remove_cutoff` meets its contract.
 -- Assumes nothing.
-use Rattle.leaf_open.proofs.Again.{removal-is}
+use Rattle.leaf_again.proofs.Again.{removal-is}
 use borrow.Author.Needs.{needs}
-use Rattle.leaf_open.proofs.remove_cutoff.Statement.{statement}
-use Rattle.leaf_open.proofs.remove_cutoff.Tie as tie
+use Rattle.leaf_again.proofs.remove_cutoff.Statement.{statement}
+use Rattle.leaf_again.proofs.remove_cutoff.Tie as tie
 
 remove-verdict-requires : tie.Need-remove-verdict-requires
 remove-verdict-requires c κs = search needs
