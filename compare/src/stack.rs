@@ -1,6 +1,7 @@
 //! `compare stack SECONDS SEED`: how much stack each call uses at most over made-up calls, beside what include/leaf_updater.h says of it.
 
-use crate::ours::stack::measure;
+use crate::ours::stack::{measure, Most};
+use crate::ours::work::SMALL_DIGEST;
 use crate::random::{rounds, Tally};
 use std::process::ExitCode;
 use std::time::Duration;
@@ -8,6 +9,8 @@ use std::time::Duration;
 const HEADER: &str = include_str!("../../include/leaf_updater.h");
 /// The header's numbers are rounded up, so that a few bytes more or less don't matter.
 const ROUNDED_TO: usize = 64;
+/// Of the stack that the header says of a digest, one with few entries in use takes this part at most.
+const SMALL_PART: usize = 20;
 
 /// Fails where a call uses more than the header says, or wasn't called.
 pub fn run(seconds: u64, seed: u64) -> ExitCode {
@@ -32,12 +35,25 @@ pub fn run(seconds: u64, seed: u64) -> ExitCode {
         };
         wrong += usize::from(used == 0 || said < used);
         println!("{call:<22} {used:>6} bytes of stack; {remark}");
+        if call == "leaf_digest" && !is_small_digest_small(&most, said) {
+            wrong += 1;
+        }
     }
     if wrong == 0 {
         ExitCode::SUCCESS
     } else {
         ExitCode::FAILURE
     }
+}
+
+/// Whether a digest with few entries in use takes as little as the header says.
+fn is_small_digest_small(most: &Most, said: usize) -> bool {
+    let (used, limit) = (
+        most.get(SMALL_DIGEST).copied().unwrap_or(0),
+        said / SMALL_PART,
+    );
+    println!("{SMALL_DIGEST:<22} {used:>6} bytes of stack; at most {limit} are due");
+    0 < used && used <= limit
 }
 
 /// The header's calls, each with the bytes of stack that the comment over it says.

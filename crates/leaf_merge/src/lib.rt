@@ -2,8 +2,9 @@
 // Ported from nomt/src/beatree/ops/update/leaf_updater.rs of thrumdev/nomt: `prepare_merge_ops`.
 //
 // The Rust makes a new vector. Here list and store have no room beside them, so the records are first raised to the end of rows, keys
-// and store, the last one first, and then moved down to the start. Every entry has a record and the store has room for all that is
-// pending, so that what is raised never covers what is still to be read.
+// and store, the last one first, and then moved down to the start. Every entry has a record, there are rows for all that is pending or
+// for what is kept beside the used entries, and the store has room for all that is pending, so that what is raised never covers what is
+// still to be read.
 use leaf_cut::Cursor;
 use leaf_cut::Gauge;
 use leaf_cut::Span;
