@@ -17,10 +17,12 @@ run:
 	@rt check trials > build/run.log 2>&1 || { cat build/run.log; exit 1; }
 	@target/bin/trials
 
-# `rt ci` comes last, so that its 'N passed, 0 failed' is the last line; it removes target/
+# `rt ci` comes last, since it removes target/, and so that its 'N passed, 0 failed' is the last line: what reads its logs says
+# nothing where all is well
 test: layout claims library header symbols examples compare
-	@echo "== rt ci: every crate from nothing, every must-fail edit, every program"
+	@echo "== rt ci: every crate from nothing, every must-fail edit, every program; then, silently, that each wrong answer was refused for itself"
 	@rt ci
+	@tools/check-refusals
 
 layout:
 	$(call step,layout of the source,rt fmt --check)

@@ -16,11 +16,11 @@ use Rattle.leaf_work.specs.TakingUp.{stop, drops}
 use Rattle.leaf_work.specs.Verdict.{baseVerdict, keysVerdict, lentVerdict, openVerdict, ingestVerdict, digestVerdict}
 use Rattle.leaf_work.specs.Outcome.{openOf, ingestOn, twinOn}
 use Rattle.leaf_work.specs.Digest.{digestOn}
-use Rattle.leaf_trials.specs.Trials.{Trials, OtherTrials}
+use Rattle.leaf_trials.specs.Trials.{WithoutBase, WithBase, Trials, OtherTrials}
 
-pub the-starred-trials-hold : Trials
+starred-without-base : WithoutBase
 unfolding num bytesOf ltKey eqKey shared sharedBits leading separateOf bodyLimit recordLimit valueLimit mergeBelow bulkAbove bulkTarget values total word count keyAt numberAt flagAt offsetAt start lengthAt valueAt recordAt run recordsBetween records valuesSize allBelow offsetStep offsetInside offsetsRight valueFits valuesFit keyStep keysRise pageVerdict placeFrom le16 tagged zeros pointers build targetOf cut cutAll plan held inBase chunkPlaces entryPlaces sound stop drops baseVerdict keysVerdict lentVerdict openVerdict ingestVerdict digestVerdict openOf ingestOn digestOn
-the-starred-trials-hold = record {
+starred-without-base = record {
   empty = refl;
   empty-number = refl;
   flagged-number = refl;
@@ -36,18 +36,26 @@ the-starred-trials-hold = record {
   body-1366 = refl;
   six-of-1200 = refl;
   body-3702 = refl;
-  leaf-of-2047 = refl;
-  merge-of-2046 = refl;
-  two-before-a-base = refl;
-  body-4092 = refl;
   all-4092 = refl;
   all-4095 = refl;
   all-5464 = refl;
   all-6830 = refl;
   all-7404 = refl;
+}
+
+starred-with-base : WithBase
+unfolding num bytesOf ltKey eqKey shared sharedBits leading separateOf bodyLimit recordLimit valueLimit mergeBelow bulkAbove bulkTarget values total word count keyAt numberAt flagAt offsetAt start lengthAt valueAt recordAt run recordsBetween records valuesSize allBelow offsetStep offsetInside offsetsRight valueFits valuesFit keyStep keysRise pageVerdict placeFrom le16 tagged zeros pointers build targetOf cut cutAll plan held inBase chunkPlaces entryPlaces sound stop drops baseVerdict keysVerdict lentVerdict openVerdict ingestVerdict digestVerdict openOf ingestOn digestOn
+starred-with-base = record {
+  leaf-of-2047 = refl;
+  merge-of-2046 = refl;
+  two-before-a-base = refl;
+  body-4092 = refl;
   all-2047 = refl;
   all-2046 = refl;
 }
+
+pub the-starred-trials-hold : Trials
+the-starred-trials-hold = record { without-base = starred-without-base; with-base = starred-with-base }
 
 pub the-other-trials-hold : OtherTrials
 unfolding num bytesOf ltKey eqKey shared sharedBits leading separateOf bodyLimit recordLimit valueLimit mergeBelow bulkAbove bulkTarget values total word count keyAt numberAt flagAt offsetAt start lengthAt valueAt recordAt run recordsBetween records valuesSize allBelow offsetStep offsetInside offsetsRight valueFits valuesFit keyStep keysRise pageVerdict placeFrom le16 tagged zeros pointers build targetOf cut cutAll plan held inBase chunkPlaces entryPlaces sound stop drops baseVerdict keysVerdict lentVerdict openVerdict ingestVerdict digestVerdict openOf ingestOn digestOn twinOn

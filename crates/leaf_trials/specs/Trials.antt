@@ -100,7 +100,8 @@ twoLeaves asked rs cut ss = record {
   tickets = between zeroKey cut ++ from cut ++ drop 98 (replicate (asked * 65) 9);
 }
 
-pub record Trials : Type 0 where
+-- the starred trials without a base
+pub record WithoutBase : Type 0 where
   -- "One empty value: number bytes 00 10; flagged, 00 90."
   pub empty : puts 1 noBase (recordOf 1 0 false ∷ []) ≡ oneLeaf 1 (recordOf 1 0 false ∷ [])
   pub empty-number : take 2 (drop 34 (puts 1 noBase (recordOf 1 0 false ∷ []) .area)) ≡ 0x00 ∷ 0x10 ∷ []
@@ -131,6 +132,15 @@ pub record Trials : Type 0 where
   pub six-of-1200 : puts 4 noBase (recordsFrom 1 (1200 ∷ 1200 ∷ 1200 ∷ 1200 ∷ 1200 ∷ 1200 ∷ []))
       ≡ twoLeaves 4 (recordsFrom 1 (1200 ∷ 1200 ∷ 1200 ∷ [])) (keyOf 4) (recordsFrom 4 (1200 ∷ 1200 ∷ 1200 ∷ []))
   pub body-3702 : body (recordsFrom 1 (1200 ∷ 1200 ∷ 1200 ∷ [])) ≡ 3702
+  -- "Record bodies in brackets": of all that is put
+  pub all-4092 : body (recordsFrom 1 (1330 ∷ 1330 ∷ 1330 ∷ [])) ≡ 4092
+  pub all-4095 : body (recordsFrom 1 (1331 ∷ 1331 ∷ 1331 ∷ [])) ≡ 4095
+  pub all-5464 : body (recordsFrom 1 (1332 ∷ 1332 ∷ 1332 ∷ 1332 ∷ [])) ≡ 5464
+  pub all-6830 : body (recordsFrom 1 (1332 ∷ 1332 ∷ 1332 ∷ 1332 ∷ 1332 ∷ [])) ≡ 6830
+  pub all-7404 : body (recordsFrom 1 (1200 ∷ 1200 ∷ 1200 ∷ 1200 ∷ 1200 ∷ 1200 ∷ [])) ≡ 7404
+
+-- those with a base
+pub record WithBase : Type 0 where
   -- "Empty base with cutoff; values 989 and 990 (2,047): a leaf."
   pub leaf-of-2047 : puts 1 emptyBaseWithCutoff (recordsFrom 1 (989 ∷ 990 ∷ []))
       ≡ record { asked = 1; reply = Finished 1; area = build size (recordsFrom 1 (989 ∷ 990 ∷ [])); tickets = between zeroKey (keyOf 255) }
@@ -142,13 +152,13 @@ pub record Trials : Type 0 where
       ≡ twoLeaves 4 (recordsFrom 1 (1332 ∷ 1332 ∷ [])) (keyOf 8) (recordsFrom 10 (1330 ∷ 1330 ∷ 1330 ∷ []))
   pub body-4092 : body (recordsFrom 10 (1330 ∷ 1330 ∷ 1330 ∷ [])) ≡ 4092
   -- "Record bodies in brackets": of all that is put
-  pub all-4092 : body (recordsFrom 1 (1330 ∷ 1330 ∷ 1330 ∷ [])) ≡ 4092
-  pub all-4095 : body (recordsFrom 1 (1331 ∷ 1331 ∷ 1331 ∷ [])) ≡ 4095
-  pub all-5464 : body (recordsFrom 1 (1332 ∷ 1332 ∷ 1332 ∷ 1332 ∷ [])) ≡ 5464
-  pub all-6830 : body (recordsFrom 1 (1332 ∷ 1332 ∷ 1332 ∷ 1332 ∷ 1332 ∷ [])) ≡ 6830
-  pub all-7404 : body (recordsFrom 1 (1200 ∷ 1200 ∷ 1200 ∷ 1200 ∷ 1200 ∷ 1200 ∷ [])) ≡ 7404
   pub all-2047 : body (recordsFrom 1 (989 ∷ 990 ∷ [])) ≡ 2047
   pub all-2046 : body (recordsFrom 1 (989 ∷ 989 ∷ [])) ≡ 2046
+
+-- "The starred trials form a joint list"
+pub record Trials : Type 0 where
+  pub without-base : WithoutBase
+  pub with-base : WithBase
 
 -- ---- the trials without a star
 
