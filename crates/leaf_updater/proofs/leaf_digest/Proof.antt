@@ -46,7 +46,7 @@ use Rattle.leaf_work.specs.declared.Entry.{Entry}
 use Rattle.leaf_within.specs.declared.DigestStep.{DigestStep}
 use Rattle.leaf_split.specs.Digests.{DigestSteps}
 use Rattle.leaf_entries.proofs.Locals.{tyAt}
-use Rattle.leaf_entries.proofs.Freed.{all-freed}
+use Rattle.leaf_entries.proofs.Freed.{stands, all-freed}
 use Rattle.leaf_work.proofs.Work as K
 use Rattle.leaf_work.proofs.Work.Laws as K′
 use Rattle.leaf_work.proofs.Entry as T
@@ -179,6 +179,7 @@ module _ {M : Type 1} (𝓤 : URA M) (H : Heap 𝓤) (A : Atoms 𝓤) (W : Given
         assigns ! (agg ! (and-then ! (load ! (from ! (stop !)) (look ! 13 refl)) (and-then ! (load ! (from ! (fld ! refl (stop !))) (look-in ! 31 (sub ! 1 refl (whole !)))) (no-more !)))) (from ! (stop !)) (init ! 11 refl (tt, (tt, (record { fits = rt .0 }, tt)))) $
         move ! (7 ∷ []) $ use1 W (‵ Page ⊛ ‵ Page) (shr-slice-copy 𝓤 H A W (named 3) κ₃ u8 .twice p (sl p ∷ [])) $ split ! $
         move ! (11 ∷ 10 ∷ 9 ∷ 0 ∷ 8 ∷ 7 ∷ []) $ group ! 6 $ use1 W (raw (Lists 𝓤 H A at-mem run .pre to)) (asked g) $
+        stands W (_ ∷ _ ∷ _ ∷ _ ∷ _ ∷ _ ∷ _ ∷ []) (none ∷ set _ ∷ set _ ∷ set _ ∷ set _ ∷ set _ ∷ set _ ∷ none ∷ set _ ∷ set _ ∷ set _ ∷ set _ ∷ set _ ∷ set _ ∷ set _ ∷ set _ ∷ set _ ∷ []) $
         calls-at ! fm (Lists 𝓤 H A at-mem run) known to (and-then ! (load ! (from ! (stop !)) (look ! 23 refl)) (and-then ! (load ! (from ! (stop !)) (look ! 19 refl)) (and-then ! (load ! (from ! (stop !)) (look ! 15 refl)) (and-then ! (load ! (from ! (stop !)) (look ! 31 refl)) (and-then ! (load ! (from ! (stop !)) (look ! 11 refl)) (and-then ! (load ! (from ! (stop !)) (look ! 7 refl)) (no-more !))))))) (λ w₁.
         use1 W (later (some (λ (r : DigestStep). (toks ⊛ ‵ (Q.the-row .own r (w₁ ∷ []))) ⊛ raw (ensured 𝓤 H A lists.ended (lists.clauses 𝓤 H A at-mem run) κs args tt r)))) (id⊢ 𝓤 _) $ await ! tt $ pick ! (λ r₁.
         split ! $ move ! (1 ∷ []) $ use1 W (some (λ (ls : Lasts). ‵ (lasts lists.ended κs args ls) ⊛ raw (fact 𝓤 (Ends r₁ (ls .1 .0) (ls .1 .1 .0) (ls .1 .1 .1 .1 .0) (ls .1 .1 .1 .1 .1 .0))))) (id⊢ 𝓤 _) $ pick ! (λ ls.

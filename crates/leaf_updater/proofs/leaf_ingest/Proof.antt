@@ -57,7 +57,7 @@ use Rattle.leaf_take.specs.declared.IngestStep.{IngestStep}
 use Rattle.leaf_take.specs.Reply.{changeGiven, reportOut}
 use Rattle.leaf_take.specs.Listing.{Steps}
 use Rattle.leaf_entries.proofs.Locals.{tyAt}
-use Rattle.leaf_entries.proofs.Freed.{all-freed}
+use Rattle.leaf_entries.proofs.Freed.{stands, all-freed}
 use Rattle.leaf_work.proofs.Work as K
 use Rattle.leaf_work.proofs.Work.Laws as K′
 use Rattle.leaf_work.proofs.Entry as T
@@ -301,6 +301,7 @@ module _ {M : Type 1} (𝓤 : URA M) (H : Heap 𝓤) (A : Atoms 𝓤) (W : Given
         assigns ! (of-opd ! (load ! (from ! (hop ! (look ! 57 refl) (stop !))) (look-raw ! 0 refl))) (from ! (stop !)) (init ! 35 refl (LL.lawful K.the-type K′.the-laws 𝓤 H A W .typed w₀ _ g .0)) $
         move ! (7 ∷ []) $ use1 W (‵ Page ⊛ ‵ Page) (shr-slice-copy 𝓤 H A W (named 3) κ₃ u8 .twice p (sl p ∷ [])) $ split ! $ nothing ! $ move ! (1 ∷ 0 ∷ []) $ fjoin ! $ owned ! K.the-row (Is K.the-row) (LL.makes K.the-type K′.the-plain 𝓤 H A) w₀ _ g $ fjoin ! $ nothing ! $ move ! (14 ∷ 0 ∷ []) $ join ! $
         use2 W (raw (Start 𝓤 H A at-mem run .pre to₁)) asked₁ $
+        stands W (_ ∷ _ ∷ _ ∷ _ ∷ _ ∷ _ ∷ _ ∷ _ ∷ _ ∷ _ ∷ _ ∷ _ ∷ _ ∷ _ ∷ _ ∷ []) (none ∷ held _ ∷ held _ ∷ held _ ∷ held _ ∷ held _ ∷ held _ ∷ held _ ∷ held _ ∷ none ∷ none ∷ none ∷ held _ ∷ []) $
         calls-at ! fm (Start 𝓤 H A at-mem run) known₁ to₁ (and-then ! (load ! (from ! (stop !)) (look ! 35 refl)) (and-then ! (load ! (from ! (stop !)) (look ! 51 refl)) (no-more !))) (λ w₁.
         use1 W (later (some (λ (r : Passing). ((‵ (flft κ₃ q₃) ⊛ ‵ ftrue) ⊛ ‵ (S .own r (w₁ ∷ []))) ⊛ raw (ensured 𝓤 H A start.ended (start.clauses 𝓤 H A at-mem run) (κ₃, tt) args₁ tt r)))) (id⊢ 𝓤 _) $ await ! tt $ pick ! (λ r₁.
         split ! $ move ! (1 ∷ []) $ use1 W (raw (fact 𝓤 (Begun r₁))) (said₁ r₁) $ heard ! (Begun r₁) (λ f₁. split ! $ split ! $ move ! (1 ∷ []) $ drop ! $ move ! (1 ∷ []) $
@@ -313,6 +314,7 @@ module _ {M : Type 1} (𝓤 : URA M) (H : Heap 𝓤) (A : Atoms 𝓤) (W : Given
         use2 W (later (some (λ (δ : GName). ‵ (ShrSlice (named 0) (ν ∷ []) E .own (x δ es) (sE ∷ [])) ⊛ ‵ (LentShared E κ₁ (ν ∷ []) q₁ γ₁ b₁ o₁ es)))) (shares-again E κ₁ (ν ∷ []) q₁ γ₁ b₁ o₁ 𝓤 H A W (named 1) (named 0) es) $ await ! tt $ pick ! (λ δ. split ! $
         move ! (5 ∷ []) $ use1 W (‵ Page ⊛ ‵ Page) (shr-slice-copy 𝓤 H A W (named 3) κ₃ u8 .twice p (sl p ∷ [])) $ split ! $ nothing ! $ move ! (6 ∷ 0 ∷ []) $ fjoin ! $ move ! (1 ∷ 0 ∷ []) $ fjoin ! $ move ! (2 ∷ 0 ∷ []) $ fjoin ! $ nothing ! $ move ! (5 ∷ 0 ∷ []) $ join ! $ move ! (4 ∷ 0 ∷ []) $ join ! $
         use2 W (raw (Pass 𝓤 H A at-mem run .pre (to₂ ν δ r₁ w₁))) (asked₂ ν δ r₁ w₁ (f₁ .1)) $
+        stands W (_ ∷ _ ∷ _ ∷ _ ∷ _ ∷ _ ∷ _ ∷ _ ∷ _ ∷ _ ∷ _ ∷ _ ∷ _ ∷ _ ∷ []) (none ∷ held _ ∷ held _ ∷ held _ ∷ held _ ∷ held _ ∷ held _ ∷ held _ ∷ held _ ∷ held _ ∷ none ∷ none ∷ held _ ∷ held _ ∷ held _ ∷ []) $
         calls-at ! fm (Pass 𝓤 H A at-mem run) known₂ (to₂ ν δ r₁ w₁) (and-then ! (load ! (from ! (stop !)) (look ! 30 refl)) (and-then ! (load ! (from ! (stop !)) (look ! 50 refl)) (and-then ! (load ! (from ! (stop !)) (look ! 40 refl)) (no-more !)))) (λ w₂.
         use1 W (later (some (λ (r : Passing). ((‵ (flft (ν ∷ []) fullShare) ⊛ ‵ (flft κ₃ q₃) ⊛ ‵ ftrue) ⊛ ‵ (S .own r (w₂ ∷ []))) ⊛ raw (ensured 𝓤 H A pass.ended (pass.clauses 𝓤 H A at-mem run) (ν ∷ [], (κ₃, tt)) (args₂ δ r₁) tt r)))) (id⊢ 𝓤 _) $ await ! tt $ pick ! (λ r₂.
         split ! $ move ! (1 ∷ []) $ use1 W (raw (fact 𝓤 (Passed r₁ r₂))) (said₂ ν δ r₁ r₂) $ heard ! (Passed r₁ r₂) (λ f₂. split ! $ split ! $ move ! (1 ∷ []) $ split ! $ move ! (1 ∷ []) $ drop ! $ move ! (2 ∷ []) $
@@ -328,6 +330,7 @@ module _ {M : Type 1} (𝓤 : URA M) (H : Heap 𝓤) (A : Atoms 𝓤) (W : Given
         nothing ! $ move ! (1 ∷ 0 ∷ []) $ fjoin ! $ owned ! u8 (Is u8) (uint-makes 𝓤 H A W w8) flag _ (refl, flag-fits) $ fjoin ! $ owned ! u8 (Is u8) (uint-makes 𝓤 H A W w8) put _ (refl, put-fits) $ fjoin ! $ move ! (2 ∷ 0 ∷ []) $ fjoin ! $ move ! (3 ∷ 0 ∷ []) $ fjoin ! $ move ! (13 ∷ 0 ∷ []) $ fjoin ! $ owned ! usize (Is usize) (uint-makes 𝓤 H A W w64) n _ (refl, rl .0) $ fjoin ! $ move ! (6 ∷ 0 ∷ []) $ fjoin ! $ owned ! K.the-row (Is K.the-row) (LL.makes K.the-type K′.the-plain 𝓤 H A) w₀ _ g $ fjoin ! $
         nothing ! $ move ! (13 ∷ 0 ∷ []) $ join ! $ move ! (13 ∷ 0 ∷ []) $ join ! $ move ! (7 ∷ 0 ∷ []) $ join ! $ move ! (12 ∷ 0 ∷ []) $ join ! $
         use2 W (raw (Take 𝓤 H A at-mem run .pre (to₃ r₂ w₂))) (asked₃ r₂ w₂ (over r₁ r₂ f₁ f₂)) $
+        stands W (_ ∷ _ ∷ _ ∷ _ ∷ _ ∷ _ ∷ _ ∷ _ ∷ _ ∷ _ ∷ _ ∷ []) (none ∷ held _ ∷ held _ ∷ held _ ∷ held _ ∷ held _ ∷ held _ ∷ held _ ∷ held _ ∷ held _ ∷ held _ ∷ none ∷ held _ ∷ held _ ∷ held _ ∷ held _ ∷ held _ ∷ held _ ∷ []) $
         calls-at ! fm (Take 𝓤 H A at-mem run) known₃ (to₃ r₂ w₂) (and-then ! (load ! (from ! (stop !)) (look ! 31 refl)) (and-then ! (load ! (from ! (stop !)) (look ! 35 refl)) (and-then ! (load ! (from ! (stop !)) (look ! 25 refl)) (and-then ! (load ! (from ! (stop !)) (look ! 21 refl)) (and-then ! (load ! (from ! (stop !)) (look ! 47 refl)) (and-then ! (load ! (from ! (stop !)) (look ! 45 refl)) (and-then ! (load ! (from ! (stop !)) (look ! 43 refl)) (and-then ! (load ! (from ! (stop !)) (look ! 41 refl)) (and-then ! (load ! (from ! (stop !)) (look ! 39 refl)) (no-more !)))))))))) (λ w₃.
         use1 W (later (some (λ (r : IngestStep). (toks₃ ⊛ ‵ (Q.the-row .own r (w₃ ∷ []))) ⊛ raw (ensured 𝓤 H A take-in.ended (take-in.clauses 𝓤 H A at-mem run) κs₃ (args₃ r₂) tt r)))) (id⊢ 𝓤 _) $ await ! tt $ pick ! (λ r₃.
         split ! $ move ! (1 ∷ []) $ use1 W (some (λ (zs : Lasts₃). ‵ (lasts take-in.ended κs₃ (args₃ r₂) zs) ⊛ raw (fact 𝓤 (Said r₂ r₃ (zs .1 .1 .1 .0))))) (id⊢ 𝓤 _) $ pick ! (λ us.
@@ -342,6 +345,7 @@ module _ {M : Type 1} (𝓤 : URA M) (H : Heap 𝓤) (A : Atoms 𝓤) (W : Given
         use2 W (later (some (λ (δ : GName). ‵ (MutSlice (named 0) (ν₂ ∷ []) E .own (x δ es) (sE ∷ [])) ⊛ ‵ (LentAgain E κ₁ (ν₂ ∷ []) q₁ γ₁ b₁ o₁ δ es)))) (lends-again E κ₁ (ν₂ ∷ []) q₁ γ₁ b₁ o₁ 𝓤 H A W (named 1) (named 0) es) $ await ! tt $ pick ! (λ δ₂. split ! $
         nothing ! $ owned ! T.the-row (Is T.the-row) (LL.makes T.the-type T′.the-plain 𝓤 H A) (r₃ .chunk) _ (parts .1 .1 .1 .0) $ fjoin ! $ owned ! usize (Is usize) (uint-makes 𝓤 H A W w64) (r₃ .at) _ (refl, parts .1 .1 .0 .1) $ fjoin ! $ move ! (1 ∷ 0 ∷ []) $ fjoin ! $ nothing ! $ move ! (3 ∷ 0 ∷ []) $ join ! $
         use2 W (raw (Insert 𝓤 H A at-mem run .pre (to₄ (ν₂ ∷ []) fullShare δ₂ es (r₃ .at) (r₃ .chunk)))) (asked₄ (ν₂ ∷ []) fullShare δ₂ es (r₃ .at) (r₃ .chunk)) $
+        stands W (_ ∷ _ ∷ _ ∷ _ ∷ _ ∷ _ ∷ _ ∷ _ ∷ _ ∷ _ ∷ _ ∷ _ ∷ []) (none ∷ held _ ∷ held _ ∷ held _ ∷ held _ ∷ held _ ∷ held _ ∷ held _ ∷ held _ ∷ held _ ∷ held _ ∷ held _ ∷ held _ ∷ held _ ∷ held _ ∷ held _ ∷ held _ ∷ held _ ∷ none ∷ held _ ∷ held _ ∷ []) $
         calls-at ! fm (Insert 𝓤 H A at-mem run) known₄ (to₄ (ν₂ ∷ []) fullShare δ₂ es (r₃ .at) (r₃ .chunk)) (and-then ! (load ! (from ! (stop !)) (look ! 16 refl)) (and-then ! (load ! (from ! (fld ! {d = 240} refl (stop !))) (look-in ! 34 (sub ! 2 {d = 240} refl (whole !)))) (and-then ! (load ! (from ! (fld ! {d = 248} refl (stop !))) (look-in ! 34 (sub ! 3 {d = 248} refl (whole !)))) (no-more !)))) (λ w₄.
         use1 W (later (some (λ (u : Unit {0}). ((‵ (flft (ν₂ ∷ []) fullShare) ⊛ ‵ ftrue) ⊛ ‵ (Nothing .own u (w₄ ∷ []))) ⊛ raw (ensured 𝓤 H A insert.ended (insert.clauses 𝓤 H A at-mem run) (ν₂ ∷ [], tt) (args₄ δ₂ es (r₃ .at) (r₃ .chunk)) tt u)))) (id⊢ 𝓤 _) $ await ! tt $ pick ! (λ u₄.
         split ! $ move ! (1 ∷ []) $ use1 W (some (λ (ws : List Entry × (Unit {0} × (Unit {0} × Unit {0}))). ‵ (lasts insert.ended (ν₂ ∷ [], tt) (args₄ δ₂ es (r₃ .at) (r₃ .chunk)) ws) ⊛ raw (fact 𝓤 (ws .0 ≡ set es (r₃ .at) (r₃ .chunk))))) (id⊢ 𝓤 _) $ pick ! (λ ys.
@@ -354,6 +358,7 @@ module _ {M : Type 1} (𝓤 : URA M) (H : Heap 𝓤) (A : Atoms 𝓤) (W : Given
         assigns ! (agg ! (and-then ! (load ! (from ! (stop !)) (look ! 14 refl)) (and-then ! (load ! (from ! (fld ! refl (stop !))) (look-in ! 52 (sub ! 1 refl (whole !)))) (no-more !)))) (from ! (stop !)) (init ! 12 refl (tt, (tt, (record { fits = rl .0 }, tt)))) $
         nothing ! $ owned ! T.the-row (Is T.the-row) (LL.makes T.the-type T′.the-plain 𝓤 H A) (r₃ .insert) _ (parts .1 .1 .1 .1 .1 .0) $ fjoin ! $ owned ! usize (Is usize) (uint-makes 𝓤 H A W w64) (r₃ .next) _ (refl, parts .1 .1 .1 .1 .0 .1) $ fjoin ! $ move ! (1 ∷ 0 ∷ []) $ fjoin ! $ nothing ! $ move ! (2 ∷ 0 ∷ []) $ join ! $
         use2 W (raw (Insert 𝓤 H A at-mem run .pre (to₄ κ₁ q₁ γ₁ (ys .0) (r₃ .next) (r₃ .insert)))) (asked₄ κ₁ q₁ γ₁ (ys .0) (r₃ .next) (r₃ .insert)) $
+        stands W (_ ∷ _ ∷ _ ∷ _ ∷ _ ∷ _ ∷ _ ∷ _ ∷ _ ∷ _ ∷ _ ∷ []) (none ∷ held _ ∷ held _ ∷ held _ ∷ held _ ∷ held _ ∷ held _ ∷ held _ ∷ held _ ∷ held _ ∷ held _ ∷ held _ ∷ held _ ∷ held _ ∷ held _ ∷ held _ ∷ held _ ∷ held _ ∷ held _ ∷ held _ ∷ held _ ∷ held _ ∷ held _ ∷ []) $
         calls-at ! fm (Insert 𝓤 H A at-mem run) known₄ (to₄ κ₁ q₁ γ₁ (ys .0) (r₃ .next) (r₃ .insert)) (and-then ! (load ! (from ! (stop !)) (look ! 11 refl)) (and-then ! (load ! (from ! (fld ! {d = 312} refl (stop !))) (look-in ! 33 (sub ! 4 {d = 312} refl (whole !)))) (and-then ! (load ! (from ! (fld ! {d = 320} refl (stop !))) (look-in ! 33 (sub ! 5 {d = 320} refl (whole !)))) (no-more !)))) (λ w₅.
         use1 W (later (some (λ (u : Unit {0}). ((‵ (flft κ₁ q₁) ⊛ ‵ ftrue) ⊛ ‵ (Nothing .own u (w₅ ∷ []))) ⊛ raw (ensured 𝓤 H A insert.ended (insert.clauses 𝓤 H A at-mem run) (κ₁, tt) (args₄ γ₁ (ys .0) (r₃ .next) (r₃ .insert)) tt u)))) (id⊢ 𝓤 _) $ await ! tt $ pick ! (λ u₅.
         split ! $ move ! (1 ∷ []) $ use1 W (some (λ (ws : List Entry × (Unit {0} × (Unit {0} × Unit {0}))). ‵ (lasts insert.ended (κ₁, tt) (args₄ γ₁ (ys .0) (r₃ .next) (r₃ .insert)) ws) ⊛ raw (fact 𝓤 (ws .0 ≡ set (ys .0) (r₃ .next) (r₃ .insert))))) (id⊢ 𝓤 _) $ pick ! (λ zs.
