@@ -2,6 +2,7 @@
 -- page, goes to it for good.
 -- Assumes nothing.
 use mathlib.Core.Path.{_≡_, refl, sym, _∙_, ap, subst}
+use mathlib.Core.Option.{some as set}
 use Prim.Native.Nat.{ℕ, _≤_, _<_, _^_}
 use mathlib.Core.List.{[], _∷_, List}
 use lib.ListN.{length}
@@ -19,7 +20,7 @@ use ghost.Atoms.{Atoms, sem}
 use contract.Monad.{Fun, fact}
 use contract.Running.{givenOf, tables, tablesOf}
 use types.Kit.{Given, Item, ‵, raw, some, later, _⊛_, ⋆, _$_, _∵_, !, qed, by, move, keep, drop, use1, use2, use3, group, split, join, pick, rewrite, fsplit, fjoin, feqL, suffices, frame, await, done}
-use types.Run.{look, init, forget, stop, hop, fld, from, load, addr, of-opd, and-then, no-more, assigns, lit, land, returns, enter, alloc1, alloc0, params1, pass1, pass0, free1, free0}
+use types.Run.{look, init, forget, stop, hop, fld, from, load, addr, of-opd, and-then, no-more, assigns, lit, land, returns, enter, alloc1, alloc0, params1, pass1, pass0, free1}
 use types.Part.{agg, whole, sub, look-in}
 use types.Tokens.{lft-new, lft-end}
 use sound.WpLaws.{FmC, fmOf, WpFn-mono}
@@ -48,6 +49,7 @@ use Rattle.leaf_within.specs.declared.DigestStep.{DigestStep}
 use Rattle.leaf_within.specs.Within.{roomNeeded}
 use Rattle.leaf_split.specs.Digests.{DigestSteps}
 use Rattle.leaf_entries.proofs.Locals.{tyAt}
+use Rattle.leaf_entries.proofs.Freed.{all-freed}
 use Rattle.leaf_entries.proofs.LocalArray.{lends-local, local-back}
 use Rattle.leaf_work.proofs.Work as K
 use Rattle.leaf_work.proofs.Work.Laws as K′
@@ -257,8 +259,9 @@ module _ {M : Type 1} (𝓤 : URA M) (H : Heap 𝓤) (A : Atoms 𝓤) (W : Given
         move ! (2 ∷ []) $ lft-end ! tt $ move ! (0 ∷ 12 ∷ 8 ∷ []) $ use3 W (later (some (λ (z : Val). ‵ (fat fullShare (tyArray (tyArray (tyInt w64) 5) 128) l₇ 0 z) ⊛ ‵ (Array R 128 .own (ls .1 .1 .0) (z ∷ []))))) (local-back 𝓤 H A W R tt 128 l₇ (ν₁ ∷ []) δ₁ (ls .1 .1 .0)) $ await ! tt $ pick ! (λ v₁. split ! $
         move ! (2 ∷ []) $ lft-end ! tt $ move ! (0 ∷ 11 ∷ 8 ∷ []) $ use3 W (later (some (λ (z : Val). ‵ (fat fullShare (tyArray (tyArray (tyInt w8) 32) 128) l₈ 0 z) ⊛ ‵ (Array B 128 .own (ls .1 .1 .1 .0) (z ∷ []))))) (local-back 𝓤 H A W B tt 128 l₈ (ν₂ ∷ []) δ₂ (ls .1 .1 .1 .0)) $ await ! tt $ pick ! (λ v₂. split ! $
         move ! (5 ∷ 4 ∷ []) $ join ! $
-        returns ! (look ! 52 refl) $ forget ! 52 refl $ forget ! 50 refl $ forget ! 48 refl $ forget ! 46 refl $ forget ! 44 refl $ forget ! 42 refl $ forget ! 40 refl $ forget ! 3 refl $ forget ! 1 refl $ forget ! 36 refl $ forget ! 34 refl $ forget ! 32 refl $ forget ! 30 refl $ forget ! 28 refl $ forget ! 26 refl $ forget ! 24 refl $ forget ! 22 refl $ forget ! 20 refl $ forget ! 18 refl $ forget ! 16 refl $ forget ! 14 refl $ forget ! 12 refl $ forget ! 10 refl $
-        move ! (52 ∷ 53 ∷ []) $ free1 ! $ move ! (50 ∷ 51 ∷ []) $ free1 ! $ move ! (48 ∷ 49 ∷ []) $ free1 ! $ move ! (46 ∷ 47 ∷ []) $ free1 ! $ move ! (44 ∷ 45 ∷ []) $ free1 ! $ move ! (42 ∷ 43 ∷ []) $ free1 ! $ move ! (40 ∷ 41 ∷ []) $ free1 ! $ move ! (3 ∷ 39 ∷ []) $ free1 ! $ move ! (1 ∷ 37 ∷ []) $ free1 ! $ move ! (34 ∷ 35 ∷ []) $ free1 ! $ move ! (32 ∷ 33 ∷ []) $ free1 ! $ move ! (30 ∷ 31 ∷ []) $ free1 ! $ move ! (28 ∷ 29 ∷ []) $ free1 ! $ move ! (26 ∷ 27 ∷ []) $ free1 ! $ move ! (24 ∷ 25 ∷ []) $ free1 ! $ move ! (22 ∷ 23 ∷ []) $ free1 ! $ move ! (20 ∷ 21 ∷ []) $ free1 ! $ move ! (18 ∷ 19 ∷ []) $ free1 ! $ move ! (16 ∷ 17 ∷ []) $ free1 ! $ move ! (14 ∷ 15 ∷ []) $ free1 ! $ move ! (12 ∷ 13 ∷ []) $ free1 ! $ move ! (10 ∷ 11 ∷ []) $ free1 ! $ move ! (8 ∷ 9 ∷ []) $ free1 ! $ free0 ! $
+        returns ! (look ! 52 refl) $ forget ! 52 refl $ forget ! 50 refl $ forget ! 48 refl $ forget ! 46 refl $ forget ! 44 refl $ forget ! 42 refl $ forget ! 40 refl $ forget ! 3 refl $ forget ! 1 refl $
+        move ! (52 ∷ 53 ∷ []) $ free1 ! $ move ! (50 ∷ 51 ∷ []) $ free1 ! $ move ! (48 ∷ 49 ∷ []) $ free1 ! $ move ! (46 ∷ 47 ∷ []) $ free1 ! $ move ! (44 ∷ 45 ∷ []) $ free1 ! $ move ! (42 ∷ 43 ∷ []) $ free1 ! $ move ! (40 ∷ 41 ∷ []) $ free1 ! $ move ! (3 ∷ 39 ∷ []) $ free1 ! $ move ! (1 ∷ 37 ∷ []) $ free1 ! $
+        all-freed W (_ ∷ _ ∷ _ ∷ _ ∷ _ ∷ _ ∷ _ ∷ _ ∷ []) (set _ ∷ set _ ∷ set _ ∷ set _ ∷ set _ ∷ set _ ∷ set _ ∷ set _ ∷ set _ ∷ set _ ∷ set _ ∷ set _ ∷ set _ ∷ set _ ∷ []) $
         keep ! (0 ∷ 6 ∷ 5 ∷ 7 ∷ 4 ∷ 3 ∷ []) $ by ! (exits r₃ (ls .1 .0) (ls .1 .1 .1 .1 .0) (ls .1 .1 .1 .1 .1 .1 .0) (ls .1 .1 .1 .1 .1 .1 .1 .0) f₃ n₀ n₁ n₃ n₄ is-r)))))))))))))))))))))))))))))))))))))))))))))))
 
 module _ {M : Type 1} (𝓤 : URA M) (H : Heap 𝓤) (A : Atoms 𝓤) (W : Given 𝓤 H A) (mem : Memory → SProp 𝓤) (run : Routine → Fun 𝓤) (𝓣 : Tables 𝓤 H)
