@@ -1,4 +1,3 @@
 -- What the exported calls answer and leave.
-pub mod Reply
 pub mod Copy
 pub mod Calls

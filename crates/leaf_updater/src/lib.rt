@@ -5,11 +5,10 @@ use leaf_entries::drain;
 use leaf_entries::insert;
 use leaf_entries::pass_entries;
 use leaf_entries::seek_entries;
-use leaf_node::Cell;
-use leaf_node::GetReply;
-use leaf_node::KeyReply;
-use leaf_node::SizeReply;
-use leaf_node::ValueReply;
+use leaf_page::LeafKey;
+use leaf_page::LeafSize;
+use leaf_page::LeafValue;
+use leaf_page::bit;
 use leaf_passed::begin_seek;
 use leaf_pending::TwinPlace;
 use leaf_room::digest_list;
@@ -31,6 +30,7 @@ ghost use lib.ListN.{length};
 ghost use Rattle.bit_ops.specs.Separate.{sharedBits, separateVerdict, separateLeaves};
 ghost use Rattle.leaf_node.specs.Good.{pageVerdict};
 ghost use Rattle.leaf_node.specs.Reply.{keyReply, valueReply, getReply, sizeReply};
+ghost use Rattle.leaf_page.specs.Reply.{keyOut, valueOut, getOut, sizeOut};
 ghost use Rattle.leaf_builder.specs.Rebuild.{rebuildVerdict, rebuildLeaves};
 ghost use Rattle.leaf_work.specs.Tests.{isSet};
 ghost use Rattle.leaf_work.specs.Lent.{separatorOf};
@@ -41,7 +41,6 @@ ghost use Rattle.leaf_pending.specs.Reply.{twinOut};
 ghost use Rattle.leaf_take.specs.Reply.{changeGiven};
 ghost use Rattle.leaf_updater.specs.Calls.{OpenSays, IngestSays, DigestSays, NextBaseSays, RemoveCutoffSays};
 ghost use Rattle.leaf_updater.specs.Copy.{copiedWhole};
-ghost use Rattle.leaf_updater.specs.Reply.{keyOut, refusedValue, foundValue, valueOut, getOut, sizeOut};
 
 // ---- keys
 
@@ -64,28 +63,6 @@ pub extern "C" fn leaf_separate(a: &[u8; 32], b: &[u8; 32], out: &mut [u8; 32]) 
 
 // ---- leaf pages. A refusal has its number and zeros in every other field.
 
-#[repr(C)]
-pub struct LeafKey {
-    pub refusal: u8,
-    pub key: [u8; 32],
-}
-
-#[repr(C)]
-pub struct LeafValue {
-    pub refusal: u8,
-    // 1 where `get` finds no such key, else 0
-    pub absent: u8,
-    pub flag: u8,
-    pub offset: usize,
-    pub len: usize,
-}
-
-#[repr(C)]
-pub struct LeafSize {
-    pub refusal: u8,
-    pub bytes: usize,
-}
-
 // The page's refusal, 1 to 5, or 0 for a good page.
 #[no_mangle]
 pub extern "C" fn leaf_page_check(page: &[u8]) -> u8
@@ -94,61 +71,12 @@ pub extern "C" fn leaf_page_check(page: &[u8]) -> u8
     leaf_node::check(page)
 }
 
-fn key_out(reply: KeyReply) -> LeafKey
-    ensures { λ r. ⌜ r ≡ keyOut reply ⌝ }
-{
-    let key = reply.key;
-    LeafKey {
-        refusal: reply.refusal,
-        key: key,
-    }
-}
-
 // Key i of a page.
 #[no_mangle]
 pub extern "C" fn leaf_page_key(page: &[u8], i: usize) -> LeafKey
     ensures { λ r. ⌜ r ≡ keyOut (keyReply 4096 (now (page .entry)) i) ⌝ }
 {
-    key_out(leaf_node::key(page, i))
-}
-
-fn bit(flag: bool) -> u8
-    ensures { λ r. ⌜ r ≡ cond flag 1 0 ⌝ }
-{
-    if flag { 1 } else { 0 }
-}
-
-fn refused_value(n: u8) -> LeafValue
-    ensures { λ r. ⌜ r ≡ refusedValue n ⌝ }
-{
-    LeafValue {
-        refusal: n,
-        absent: 0,
-        flag: 0,
-        offset: 0,
-        len: 0,
-    }
-}
-
-fn found_value(c: Cell) -> LeafValue
-    ensures { λ r. ⌜ r ≡ foundValue c ⌝ }
-{
-    LeafValue {
-        refusal: 0,
-        absent: 0,
-        flag: bit(c.flag),
-        offset: c.offset,
-        len: c.len,
-    }
-}
-
-fn value_out(reply: ValueReply) -> LeafValue
-    ensures { λ r. ⌜ r ≡ valueOut reply ⌝ }
-{
-    match reply {
-        ValueReply::Refused(n) => refused_value(n),
-        ValueReply::At(c) => found_value(c),
-    }
+    leaf_page::key(page, i)
 }
 
 // Value i of a page: offset, length and flag.
@@ -156,23 +84,7 @@ fn value_out(reply: ValueReply) -> LeafValue
 pub extern "C" fn leaf_page_value(page: &[u8], i: usize) -> LeafValue
     ensures { λ r. ⌜ r ≡ valueOut (valueReply 4096 (now (page .entry)) i) ⌝ }
 {
-    value_out(leaf_node::value(page, i))
-}
-
-fn get_out(reply: GetReply) -> LeafValue
-    ensures { λ r. ⌜ r ≡ getOut reply ⌝ }
-{
-    match reply {
-        GetReply::Refused(n) => refused_value(n),
-        GetReply::Absent => LeafValue {
-            refusal: 0,
-            absent: 1,
-            flag: 0,
-            offset: 0,
-            len: 0,
-        },
-        GetReply::At(c) => found_value(c),
-    }
+    leaf_page::value(page, i)
 }
 
 // The value of a key in a page, or absent.
@@ -180,22 +92,7 @@ fn get_out(reply: GetReply) -> LeafValue
 pub extern "C" fn leaf_page_get(page: &[u8], key: &[u8; 32]) -> LeafValue
     ensures { λ r. ⌜ r ≡ getOut (getReply 4096 (now (page .entry)) (now (key .entry))) ⌝ }
 {
-    get_out(leaf_node::get(page, key))
-}
-
-fn size_out(reply: SizeReply) -> LeafSize
-    ensures { λ r. ⌜ r ≡ sizeOut reply ⌝ }
-{
-    match reply {
-        SizeReply::Refused(n) => LeafSize {
-            refusal: n,
-            bytes: 0,
-        },
-        SizeReply::Bytes(b) => LeafSize {
-            refusal: 0,
-            bytes: b,
-        },
-    }
+    leaf_page::get(page, key)
 }
 
 // The value bytes of records `from` up to, not including, `to`.
@@ -203,7 +100,7 @@ fn size_out(reply: SizeReply) -> LeafSize
 pub extern "C" fn leaf_page_values_size(page: &[u8], from: usize, to: usize) -> LeafSize
     ensures { λ r. ⌜ r ≡ sizeOut (sizeReply 4096 (now (page .entry)) from to) ⌝ }
 {
-    size_out(leaf_node::values_size(page, from, to))
+    leaf_page::values_size(page, from, to)
 }
 
 // Builds the page of records `from` up to `to` in the first 4,096 bytes of out, records before `mid` cell by cell and the

@@ -10,8 +10,8 @@ fn passes(v: &[u8; 99]) -> bool {
     let a = key(v, 0);
     let b = key(v, 32);
     let mut out = [0u8; 32];
-    let reply = leaf_updater::leaf_separate(&a, &b, &mut out);
-    let shared = leaf_updater::leaf_prefix_len(&a, &b);
+    let reply = bit_ops::separate(&a, &b, &mut out);
+    let shared = bit_ops::prefix_len(&a, &b);
     reply == byte(v, 64) && shared == number(v, 65) && same_key(v, 67, &out)
 }
 

@@ -6,7 +6,7 @@ use crate::bytes::number;
 use crate::bytes::same;
 use crate::bytes::same_key;
 use crate::tally::Tally;
-use leaf_updater::LeafValue;
+use leaf_page::LeafValue;
 
 const QUESTIONS: usize = 24;
 
@@ -31,22 +31,22 @@ fn passes(page: &[u8], v: &[u8], q: usize) -> bool {
     let from = number(v, q + 1);
     let to = number(v, q + 3);
     if call == 0 {
-        let r = leaf_updater::leaf_page_key(page, from);
+        let r = leaf_page::key(page, from);
         return r.refusal == byte(v, q + 37) && same_key(v, q + 44, &r.key);
     }
     if call == 1 {
-        return same_value(v, q, leaf_updater::leaf_page_value(page, from));
+        return same_value(v, q, leaf_page::value(page, from));
     }
     if call == 2 {
-        let r = leaf_updater::leaf_page_values_size(page, from, to);
+        let r = leaf_page::values_size(page, from, to);
         return r.refusal == byte(v, q + 37) && r.bytes == number(v, q + 42);
     }
     let sought = key(v, q + 5);
-    same_value(v, q, leaf_updater::leaf_page_get(page, &sought))
+    same_value(v, q, leaf_page::get(page, &sought))
 }
 
 fn ask_all(page: &[u8], v: &[u8], t: Tally) -> Tally {
-    let mut out = t.count(leaf_updater::leaf_page_check(page) == byte(v, 4096));
+    let mut out = t.count(leaf_node::check(page) == byte(v, 4096));
     let mut i = 0;
     while i < QUESTIONS {
         out = out.count(passes(page, v, 4097 + 76 * i));
@@ -78,6 +78,6 @@ pub(crate) fn next_build(fd: i32, t: Tally) -> Tally {
     let from = number(whole, 4096);
     let mid = number(whole, 4098);
     let to = number(whole, 4100);
-    let reply = leaf_updater::leaf_page_rebuild(&whole[0..4096], from, mid, to, &mut out);
+    let reply = leaf_builder::rebuild(&whole[0..4096], from, mid, to, &mut out);
     t.count(reply == 0 && same(whole, 4102, &out))
 }

@@ -114,7 +114,7 @@ fn count_of(page: &[u8]) -> usize
 // The body of a leaf, by its page.
 fn body(page: &[u8]) -> usize {
     let n = count_of(page);
-    let size = leaf_updater::leaf_page_values_size(page, 0, n);
+    let size = leaf_page::values_size(page, 0, n);
     let bytes = size.bytes;
     if bytes < 4097 {
         return 34 * n + bytes;

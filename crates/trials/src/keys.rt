@@ -32,7 +32,7 @@ fn zeros_after(key: &[u8; 32]) -> bool {
 fn separate_trial(label: &[u8], a: u8, b: u8, refusal: u8, x: u8) {
     say(label);
     let mut out = key_from(0xee);
-    let reply = leaf_updater::leaf_separate(&key_from(a), &key_from(b), &mut out);
+    let reply = bit_ops::separate(&key_from(a), &key_from(b), &mut out);
     if reply == 0 {
         say(b"starts ");
         say_hex(out[0]);

@@ -42,7 +42,7 @@ pub(crate) fn flagged_pair() -> [u8; 4096] {
 
 fn check_trial(label: &[u8], page: &[u8; 4096], refusal: u8) {
     say(label);
-    let reply = leaf_updater::leaf_page_check(page);
+    let reply = leaf_node::check(page);
     say_reply(reply);
     close(reply == refusal);
 }
@@ -54,8 +54,8 @@ fn number_trial(label: &[u8], flag: u8, high: u8) {
     page[69] = flag;
     let mut cell = [0xeeu8; 4096];
     let mut chunk = [0xeeu8; 4096];
-    let by_cell = leaf_updater::leaf_page_rebuild(&page, 1, 2, 2, &mut cell);
-    let by_chunk = leaf_updater::leaf_page_rebuild(&page, 1, 1, 2, &mut chunk);
+    let by_cell = leaf_builder::rebuild(&page, 1, 2, 2, &mut cell);
+    let by_chunk = leaf_builder::rebuild(&page, 1, 1, 2, &mut chunk);
     say_hex(cell[34]);
     say(b" ");
     say_hex(cell[35]);

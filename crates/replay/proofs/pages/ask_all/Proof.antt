@@ -10,8 +10,8 @@ Inv-loop page v out₀ i₀ out i = i ≤ 24
 abbrev μ-loop : tie.MeasureT-loop
 μ-loop page v out₀ i₀ out i = 24 - i
 
-leaf-page-check-requires : tie.Need-leaf-page-check-requires Inv-loop μ-loop
-leaf-page-check-requires c κs = search needs
+check-requires : tie.Need-check-requires Inv-loop μ-loop
+check-requires c κs = search needs
 
 byte-requires : tie.Need-byte-requires Inv-loop μ-loop
 byte-requires c κs = search needs
@@ -52,7 +52,7 @@ ask-all-spec =
     (tie.spec
     Inv-loop
     μ-loop
-    leaf-page-check-requires
+    check-requires
     byte-requires
     count-requires
     loop-holds

@@ -1,8 +1,8 @@
--- `leaf_updater::found_value` meets its contract.
+-- `leaf_page::found_value` meets its contract.
 -- Assumes nothing.
 use borrow.Author.Needs.{needs}
-use Rattle.leaf_updater.proofs.found_value.Statement.{statement}
-use Rattle.leaf_updater.proofs.found_value.Tie as tie
+use Rattle.leaf_page.proofs.found_value.Statement.{statement}
+use Rattle.leaf_page.proofs.found_value.Tie as tie
 
 bit-requires : tie.Need-bit-requires
 bit-requires c κs = search needs

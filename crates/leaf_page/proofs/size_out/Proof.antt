@@ -1,9 +1,9 @@
--- `leaf_updater::size_out` meets its contract.
+-- `leaf_page::size_out` meets its contract.
 -- Assumes nothing.
-use Rattle.leaf_updater.proofs.Replies.{size-refused, size-given}
+use Rattle.leaf_page.proofs.Replies.{size-refused, size-given}
 use borrow.Author.Needs.{needs}
-use Rattle.leaf_updater.proofs.size_out.Statement.{statement}
-use Rattle.leaf_updater.proofs.size_out.Tie as tie
+use Rattle.leaf_page.proofs.size_out.Statement.{statement}
+use Rattle.leaf_page.proofs.size_out.Tie as tie
 
 enum-known-reply : tie.Need-enum-known-reply
 enum-known-reply c = search needs

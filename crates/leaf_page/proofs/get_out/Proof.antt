@@ -1,15 +1,18 @@
--- `leaf_updater::value_out` meets its contract.
+-- `leaf_page::get_out` meets its contract.
 -- Assumes nothing.
-use Rattle.leaf_updater.proofs.Replies.{value-refused, value-found}
+use Rattle.leaf_page.proofs.Replies.{get-refused, get-absent, get-found}
 use borrow.Author.Needs.{needs}
-use Rattle.leaf_updater.proofs.value_out.Statement.{statement}
-use Rattle.leaf_updater.proofs.value_out.Tie as tie
+use Rattle.leaf_page.proofs.get_out.Statement.{statement}
+use Rattle.leaf_page.proofs.get_out.Tie as tie
 
 enum-known-reply : tie.Need-enum-known-reply
 enum-known-reply c = search needs
 
 refused-value-requires : tie.Need-refused-value-requires
 refused-value-requires c κs = search needs
+
+enum-told : tie.Need-enum-told
+enum-told c = search needs
 
 enum-known-reply-2 : tie.Need-enum-known-reply-2
 enum-known-reply-2 c = search needs
@@ -18,18 +21,23 @@ found-value-requires : tie.Need-found-value-requires
 found-value-requires c κs = search needs
 
 returns : tie.Need-returns
-returns c = search (value-refused, needs)
+returns c = search (get-refused, needs)
 
 returns-2 : tie.Need-returns-2
-returns-2 c = search (value-found, needs)
+returns-2 c = search (get-absent, needs)
 
-pub value-out-spec : {M : Type 1} → statement M
-value-out-spec =
+returns-3 : tie.Need-returns-3
+returns-3 c = search (get-found, needs)
+
+pub get-out-spec : {M : Type 1} → statement M
+get-out-spec =
     tie.close
     (tie.spec
     enum-known-reply
     refused-value-requires
+    enum-told
     enum-known-reply-2
     found-value-requires
     returns
-    returns-2)
+    returns-2
+    returns-3)

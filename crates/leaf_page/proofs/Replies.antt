@@ -1,6 +1,5 @@
 -- Each case of a reply and the struct of numbers that stands for it. Assumes nothing.
 use mathlib.Core.Path.{_≡_}
-use mathlib.Core.Bool.{Bool, cond}
 use Prim.Native.Nat.{ℕ}
 use Rattle.leaf_node.specs.declared.Cell.{Cell}
 use Rattle.leaf_node.specs.declared.ValueReply.{ValueReply}
@@ -9,8 +8,8 @@ use Rattle.leaf_node.specs.declared.GetReply.{GetReply}
 use Rattle.leaf_node.specs.declared.GetReply.the-variants as get
 use Rattle.leaf_node.specs.declared.SizeReply.{SizeReply}
 use Rattle.leaf_node.specs.declared.SizeReply.the-variants as sizes
-use Rattle.leaf_updater.specs.declared.LeafValue.{LeafValue}
-use Rattle.leaf_updater.specs.Reply.{refusedValue, foundValue, valueOut, getOut, sizeOut}
+use Rattle.leaf_page.specs.declared.LeafValue.{LeafValue}
+use Rattle.leaf_page.specs.Reply.{refusedValue, foundValue, valueOut, getOut, sizeOut}
 
 pub value-refused : (r : ValueReply) (n : ℕ) (v : LeafValue) → r ≡ value.Refused n → v ≡ refusedValue n → v ≡ valueOut r
 value-refused r n v e q = rw (e, q)
@@ -32,6 +31,3 @@ size-refused r n e = rw e
 
 pub size-given : (r : SizeReply) (b : ℕ) → r ≡ sizes.Bytes b → record { refusal = 0; bytes = b } ≡ sizeOut r
 size-given r b e = rw e
-
-pub truth-out : (n : ℕ) (a b : Bool) → a ≡ b → n ≡ cond a 1 0 → n ≡ cond b 1 0
-truth-out n a b e f = rw (← e) f

@@ -9,9 +9,9 @@ use Rattle.leaf_node.specs.declared.GetReply.{GetReply}
 use Rattle.leaf_node.specs.declared.GetReply.the-variants as get
 use Rattle.leaf_node.specs.declared.SizeReply.{SizeReply}
 use Rattle.leaf_node.specs.declared.SizeReply.the-variants as sizes
-use Rattle.leaf_updater.specs.declared.LeafKey.{LeafKey}
-use Rattle.leaf_updater.specs.declared.LeafValue.{LeafValue}
-use Rattle.leaf_updater.specs.declared.LeafSize.{LeafSize}
+use Rattle.leaf_page.specs.declared.LeafKey.{LeafKey}
+use Rattle.leaf_page.specs.declared.LeafValue.{LeafValue}
+use Rattle.leaf_page.specs.declared.LeafSize.{LeafSize}
 
 abbrev pub keyOut : KeyReply → LeafKey
 keyOut r = record { refusal = r .refusal; key = r .key }

@@ -1,0 +1,2 @@
+-- What the page calls answer in numbers.
+pub mod Reply
