@@ -19,6 +19,7 @@ pub record Differing (a b : List ℕ) (at x y : ℕ) : Type 0 where
   pub in-b : y ≡ wordAt b at
   pub differ : at < 3 → x ≡ y → ⊥
 
+-- n zeros
 abbrev pub zeros : ℕ → List ℕ
 zeros n = replicate n 0
 

@@ -4,10 +4,11 @@ use mathlib.Core.Path.{_≡_, _∙_}
 use mathlib.Core.List.{List, _++_, append-assoc}
 use native.Mathlib.Omega.{arith}
 use lib.ListN.{length, length-append}
+use Rattle.bit_ops.specs.Steps.{zeros}
 use Rattle.leaf_node.specs.Limits.{bodyLimit}
 use Rattle.leaf_node.specs.Record.{Record, values, total}
 use Rattle.leaf_node.specs.Page.{pointer}
-use Rattle.leaf_node.specs.Build.{le16, zeros, pointers, build, put, started, pushed}
+use Rattle.leaf_node.specs.Build.{le16, pointers, build, put, started, pushed}
 use Rattle.leaf_node.specs.Fits.{All, Keyed, Fits}
 use Rattle.leaf_node.proofs.Lengths.{length-le16, length-zeros, length-values, length-pointers, values-append, pointers-append, body-is-pointers-and-values}
 use Rattle.leaf_node.proofs.Copying.{put-all}

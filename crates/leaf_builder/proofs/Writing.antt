@@ -8,9 +8,10 @@ use native.Mathlib.Nat.{sub-self, add-sub-cancel-left}
 use native.Mathlib.Numerals.{add-one}
 use lib.ListN.{length, getD, take, drop, set, length-take, length-drop, getD-replicate}
 use lib.Seq.{paste, paste-zero, sets-eq}
+use Rattle.bit_ops.specs.Steps.{zeros}
 use Rattle.leaf_node.specs.Record.{Record, values, total}
 use Rattle.leaf_node.specs.Page.{count, pointer, keyAt, offsetAt, flagAt, start, lengthAt, valueAt, recordAt, run, recordsBetween, valuesSize}
-use Rattle.leaf_node.specs.Build.{le16, tagged, zeros, pointers, put, started, pushed}
+use Rattle.leaf_node.specs.Build.{le16, tagged, pointers, put, started, pushed}
 use Rattle.leaf_node.specs.Reply.{cellAt}
 use Rattle.leaf_node.specs.Steps.{Readable}
 use Rattle.leaf_node.specs.Fits.{All, nil, cons, Keyed}
@@ -31,7 +32,6 @@ module _ (d : List ℕ) (from to : ℕ) where
 
   module _ (x : List ℕ) (i : ℕ) (e : x ≡ paste d from (zeros (to - from)) (i - from)) (h : from ≤ i) where
     pub clear-more : i < to → to ≤ length d → set x i 0 ≡ paste d from (zeros (to - from)) (i + 1 - from)
-    unfolding zeros
     clear-more l m =
         let z = length-zeros (to - from) in
         let a : from + (i - from) ≡ i = omega arith in

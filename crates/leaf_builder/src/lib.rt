@@ -16,9 +16,10 @@ ghost use mathlib.Core.Path.{_≡_};
 ghost use mathlib.Core.List.{[], _∷_, _++_};
 ghost use Prim.Native.Nat.{_+_, _-_, _≤_, _<_};
 ghost use lib.ListN.{length};
+ghost use Rattle.bit_ops.specs.Steps.{zeros};
 ghost use Rattle.leaf_node.specs.Limits.{PageSize};
 ghost use Rattle.leaf_node.specs.Page.{pointer, keyAt, offsetAt, flagAt, start, recordAt, recordsBetween};
-ghost use Rattle.leaf_node.specs.Build.{le16, tagged, zeros, pointers, put, started, pushed, build};
+ghost use Rattle.leaf_node.specs.Build.{le16, tagged, pointers, put, started, pushed, build};
 ghost use Rattle.leaf_builder.specs.Steps.{Begins, CellFits, Shift, Chunk, Copied, Parts};
 ghost use Rattle.leaf_builder.specs.Rebuild.{rebuildVerdict, rebuildLeaves};
 

@@ -6,7 +6,8 @@ use native.Mathlib.Omega.{arith}
 use native.Mathlib.Numerals.{add-one}
 use lib.ListN.{length, getD, set, take, drop, replicate, length-set, length-append, length-drop, length-replicate, getD-replicate, take-append-drop, drop-of-length-le}
 use lib.Seq.{length-take-le, take-suc, take-all, take-at, drop-cons, getD-append-add, getD-drop, set-at, append-snoc}
-use Rattle.leaf_node.specs.Build.{put, zeros}
+use Rattle.bit_ops.specs.Steps.{zeros}
+use Rattle.leaf_node.specs.Build.{put}
 use Rattle.leaf_move.specs.Moving.{lowered, cleared, settled}
 
 -- the first i of new, then what was there
@@ -122,7 +123,7 @@ module _ {A : Type 0} (before : List A) (count : ℕ) (room : count ≤ length b
 
 module _ (before : List ℕ) (count : ℕ) (room : count ≤ length before) (low : List ℕ) (e : low ≡ lowered before count) where
   zeros-put : put low count (zeros (length before - count)) ≡ cleared 0 low count
-  unfolding put zeros cleared
+  unfolding put cleared
   zeros-put =
       let l : length low ≡ length before = low-long before count room low e in
       let d : length low ≤ count + length (replicate {A = ℕ} (length before - count) 0) = rw (length-replicate {A = ℕ} (length before - count) 0) (omega (arith, l)) in

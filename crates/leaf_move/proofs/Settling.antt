@@ -6,7 +6,8 @@ use mathlib.Core.List.{List, _++_}
 use native.Mathlib.Omega.{arith}
 use lib.ListN.{length, getD, take, drop, replicate, length-take, length-drop, getD-replicate, drop-of-length-le, replicate-append-replicate}
 use lib.Seq.{ext-getD, getD-append-add, getD-drop, getD-take}
-use Rattle.leaf_node.specs.Build.{put, zeros}
+use Rattle.bit_ops.specs.Steps.{zeros}
+use Rattle.leaf_node.specs.Build.{put}
 use Rattle.leaf_node.proofs.Lengths.{length-zeros}
 use Rattle.leaf_builder.proofs.Putting.{put-same, put-put, put-swap}
 use Rattle.leaf_move.specs.Moving.{lowered, settled, Spare}
@@ -23,7 +24,6 @@ pub all-may-be-in-use : (d : List ℕ) → Spare d 0 (length d)
 all-may-be-in-use d = record { few = omega arith; within = omega arith; zero = λ i h l. absurd (omega arith) }
 
 zeros-join : (a b c : ℕ) → a ≤ b → b ≤ c → zeros (b - a) ++ zeros (c - b) ≡ zeros (c - a)
-unfolding zeros
 zeros-join a b c h k =
     let e : b - a + (c - b) ≡ c - a = omega arith in
     replicate-append-replicate (b - a) (c - b) 0 ∙ ap (λ (n : ℕ). replicate n 0) e
@@ -51,7 +51,7 @@ module _ (before : List ℕ) (count filled : ℕ) (s : Spare before count filled
 
       at : (i : ℕ) → i < n → getD (take n (drop a low)) i 0 ≡ getD (zeros n) i 0
       at i l =
-          getD-take n (drop a low) i 0 l ∙ getD-drop a low i 0 ∙ as-before (a + i) (omega arith) ∙ s .zero (a + i) (omega arith) (omega (arith, u (omega arith))) ∙ sym (unfold zeros in getD-replicate n i 0 0 l)
+          getD-take n (drop a low) i 0 l ∙ getD-drop a low i 0 ∙ as-before (a + i) (omega arith) ∙ s .zero (a + i) (omega arith) (omega (arith, u (omega arith))) ∙ sym (getD-replicate n i 0 0 l)
 
   module _ (used top : ℕ) (eu : used ≡ max count filled) (et : top ≡ max used (length before - count)) where
     used-is : (count ≤ used) × (filled ≤ used) × (used ≤ length before)

@@ -5,9 +5,10 @@ use mathlib.Core.List.{List, [], _∷_, _++_, append-assoc}
 use native.Mathlib.Nat.{add-zero, add-assoc}
 use native.Mathlib.Omega.{arith}
 use lib.ListN.{length, length-append, length-replicate}
+use Rattle.bit_ops.specs.Steps.{zeros}
 use Rattle.leaf_node.specs.Record.{Record, body, values, total}
 use Rattle.leaf_node.specs.Page.{run}
-use Rattle.leaf_node.specs.Build.{le16, zeros, pointers}
+use Rattle.leaf_node.specs.Build.{le16, pointers}
 use Rattle.leaf_node.specs.Fits.{All, nil, cons, Keyed}
 
 pub length-le16 : (w : ℕ) → length (le16 w) ≡ 2
@@ -15,7 +16,6 @@ unfolding le16
 length-le16 w = refl
 
 pub length-zeros : (n : ℕ) → length (zeros n) ≡ n
-unfolding zeros
 length-zeros n = length-replicate n 0
 
 pub length-values : (rs : List Record) → length (values rs) ≡ total rs

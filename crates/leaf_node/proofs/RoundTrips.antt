@@ -14,11 +14,12 @@ use lib.ListN.{length, getD, take, drop, length-append, length-drop}
 use lib.Seq.{drop-cons, take-add, take-at, drop-at, take-all, getD-append-add, getD-drop, drop-drop}
 use borrow.Author.Tests.{le-leb, lt-leb}
 use Rattle.bit_ops.specs.Key.{Bytes, num}
+use Rattle.bit_ops.specs.Steps.{zeros}
 use Rattle.leaf_node.specs.Limits.{PageSize, bodyLimit, recordLimit, valueLimit}
 use Rattle.leaf_node.specs.Record.{Record, body, values, total}
 use Rattle.leaf_node.specs.Page.{word, count, pointer, keyAt, numberAt, offsetAt, flagAt, start, lengthAt, valueAt, recordAt, run, recordsBetween, records, valuesSize, bodySize}
 use Rattle.leaf_node.specs.Good.{OffsetsRight, ValuesFit, KeysRise, Good}
-use Rattle.leaf_node.specs.Build.{le16, tagged, zeros, pointers, build, cleared}
+use Rattle.leaf_node.specs.Build.{le16, tagged, pointers, build, cleared}
 use Rattle.leaf_node.specs.Steps.{Laid}
 use Rattle.leaf_node.specs.Fits.{All, cons, Keyed, Fitting, Ascending, rise-none, rise-one, rise-more, Fits, Proper}
 use Rattle.leaf_node.proofs.Reading.{start-in, start-end, pointers-end-before-values, good-pages-are-laid}

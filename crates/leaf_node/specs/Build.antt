@@ -2,7 +2,8 @@
 use Prim.Native.Nat.{ℕ, _+_, _-_, _/_, _%_}
 use mathlib.Core.Bool.{Bool, cond}
 use mathlib.Core.List.{List, [], _∷_, _++_}
-use lib.ListN.{length, replicate, take, drop}
+use lib.ListN.{length, take, drop}
+use Rattle.bit_ops.specs.Steps.{zeros}
 use Rattle.leaf_node.specs.Record.{Record, values, total}
 use Rattle.leaf_node.specs.Page.{count, start, pointer}
 
@@ -13,9 +14,6 @@ le16 w = w % 256 ∷ w / 256 ∷ []
 -- a pointer's number: the offset, with the top bit for a flagged value
 unfoldable pub tagged : ℕ → Bool → ℕ
 tagged at f = at + cond f 32768 0
-
-unfoldable pub zeros : ℕ → List ℕ
-zeros n = replicate n 0
 
 -- the pointers of records whose values begin at `at`
 unfoldable pub pointers : ℕ → List Record → List ℕ

@@ -14,7 +14,6 @@ use Rattle.leaf_node.specs.Record.{Record, values, total}
 use Rattle.leaf_node.specs.Page.{word, count, keyAt, numberAt, flagAt, offsetAt, start, lengthAt, valueAt, recordAt, run, recordsBetween, records, valuesSize}
 use Rattle.leaf_node.specs.Good.{allBelow, offsetStep, offsetInside, offsetsRight, valueFits, valuesFit, keyStep, keysRise, pageVerdict}
 use Rattle.leaf_node.specs.Search.{placeFrom}
-use Rattle.leaf_node.specs.Build as built
 use Rattle.leaf_node.specs.Build.{le16, tagged, pointers, build}
 use Rattle.leaf_model.specs.Cut.{targetOf, cut, cutAll}
 use Rattle.leaf_model.specs.Work.{zeroKey, plan}
@@ -93,7 +92,7 @@ pub record Merges : Type 0 where
   pub removal-when-done : removeCutoffOf size (ends .work) (ends .list) (ends .store) .reply ≡ Refused 9
 
 pub a-merge-joins-both-bases : Merges
-unfolding num bytesOf ltKey eqKey shared sharedBits leading separateOf bodyLimit recordLimit valueLimit mergeBelow bulkAbove bulkTarget values total word count keyAt numberAt flagAt offsetAt start lengthAt valueAt recordAt run recordsBetween records valuesSize allBelow offsetStep offsetInside offsetsRight valueFits valuesFit keyStep keysRise pageVerdict placeFrom le16 tagged built.zeros pointers build targetOf cut cutAll plan held inBase chunkPlaces entryPlaces sound stop drops baseVerdict keysVerdict lentVerdict openVerdict ingestVerdict digestVerdict nextBaseVerdict removeVerdict openOf ingestOn digestOn nextBaseOf removeCutoffOf
+unfolding num bytesOf ltKey eqKey shared sharedBits leading separateOf bodyLimit recordLimit valueLimit mergeBelow bulkAbove bulkTarget values total word count keyAt numberAt flagAt offsetAt start lengthAt valueAt recordAt run recordsBetween records valuesSize allBelow offsetStep offsetInside offsetsRight valueFits valuesFit keyStep keysRise pageVerdict placeFrom le16 tagged pointers build targetOf cut cutAll plan held inBase chunkPlaces entryPlaces sound stop drops baseVerdict keysVerdict lentVerdict openVerdict ingestVerdict digestVerdict nextBaseVerdict removeVerdict openOf ingestOn digestOn nextBaseOf removeCutoffOf
 a-merge-joins-both-bases = record {
   opening-is-accepted = refl;
   first-digest = refl;
@@ -183,7 +182,7 @@ pub record EachClause : Type 0 where
   pub absent-keys : verdict (work 1 0 0 0 0 0 0 z 0 (keyOf 1) 0 z z 0 z) [] [] ≡ 8
 
 pub each-clause-of-soundness-refuses-a-work : EachClause
-unfolding num ltKey bodyLimit recordLimit valueLimit mergeBelow values total word count keyAt numberAt flagAt offsetAt start lengthAt valueAt recordAt run recordsBetween records valuesSize allBelow offsetStep offsetInside offsetsRight valueFits valuesFit keyStep keysRise pageVerdict le16 tagged built.zeros pointers build held inBase chunkPlaces entryPlaces sound keysVerdict lentVerdict
+unfolding num ltKey bodyLimit recordLimit valueLimit mergeBelow values total word count keyAt numberAt flagAt offsetAt start lengthAt valueAt recordAt run recordsBetween records valuesSize allBelow offsetStep offsetInside offsetsRight valueFits valuesFit keyStep keysRise pageVerdict le16 tagged pointers build held inBase chunkPlaces entryPlaces sound keysVerdict lentVerdict
 each-clause-of-soundness-refuses-a-work = record {
   none-broken = refl;
   known-turn = refl;

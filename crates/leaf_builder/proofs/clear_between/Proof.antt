@@ -7,7 +7,7 @@ use mathlib.Core.Path.{_≡_, refl}
 use Prim.Native.Nat.{_-_, _≤_}
 use lib.ListN.{length}
 use lib.Seq.{paste}
-use Rattle.leaf_node.specs.Build.{zeros}
+use Rattle.bit_ops.specs.Steps.{zeros}
 use Rattle.leaf_builder.proofs.Writing.{clear-start, clear-more, clear-done}
 
 abbrev Inv-loop : tie.InvT-loop
