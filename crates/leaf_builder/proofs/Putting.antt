@@ -1,4 +1,4 @@
--- Bytes put into a buffer one after the other, and side by side. Assumes nothing.
+-- Elements put into a list one after the other, and bytes side by side. Assumes nothing.
 use Prim.Native.Nat.{ℕ, zero, suc, _+_, _-_, _≤_}
 use mathlib.Core.Path.{_≡_, refl, sym, ap, _∙_}
 use mathlib.Core.List.{List, [], _∷_, _++_, append-nil, append-assoc}
@@ -15,12 +15,12 @@ take-drop zero n xs = rw (zero-add n)
 take-drop (suc f) n [] = rw (take-nil n, take-nil (suc f + n))
 take-drop (suc f) n (x ∷ xs) = rw (suc-add f n) (take-drop f n xs)
 
-pub length-put : (d : List ℕ) (at : ℕ) (s : List ℕ) → at + length s ≤ length d → length (put d at s) ≡ length d
+pub length-put : {A : Type 0} (d : List A) (at : ℕ) (s : List A) → at + length s ≤ length d → length (put d at s) ≡ length d
 unfolding put
 length-put d at s h = simp (length-append, length-drop) (omega (arith, length-take-le at d (omega arith)))
 
 -- nothing
-pub put-none : (d : List ℕ) (at : ℕ) → put d at [] ≡ d
+pub put-none : {A : Type 0} (d : List A) (at : ℕ) → put d at [] ≡ d
 unfolding put
 put-none d at = simp (append-nil, add-zero, take-append-drop)
 
@@ -50,10 +50,10 @@ put-over d at s t h e =
     rw (put-parts d at s, put-past (take at d) (s ++ r) t at 0 (omega arith), put-front s r t e, put-parts d at t, e)
 
 -- t right behind s
-pub put-put : (d : List ℕ) (at : ℕ) (s : List ℕ) (b : ℕ) (t : List ℕ) → b ≡ at + length s → at ≤ length d → put (put d at s) b t ≡ put d at (s ++ t)
+pub put-put : {A : Type 0} (d : List A) (at : ℕ) (s : List A) (b : ℕ) (t : List A) → b ≡ at + length s → at ≤ length d → put (put d at s) b t ≡ put d at (s ++ t)
 unfolding put
-put-put d at s b t e h =
-    let x : List ℕ = take at d ++ s in
+put-put {A} d at s b t e h =
+    let x : List A = take at d ++ s in
     let l : length x ≡ at + length s = simp length-append (omega (arith, length-take-le at d h)) in
     let r : drop (at + length s + length t) (x ++ drop (at + length s) d) ≡ drop (at + length s + length t) d =
     rw (← l) (drop-append-add x (drop (length x) d) (length t) ∙ drop-drop (length t) (length x) d) in

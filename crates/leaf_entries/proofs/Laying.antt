@@ -7,20 +7,22 @@ use native.Mathlib.Numerals.{add-one}
 use native.Mathlib.Omega.{arith}
 use lib.ListN.{length, getD, set, take, drop, replicate, length-append, length-drop, length-take, length-map, length-replicate, replicate-append-replicate, drop-of-length-le}
 use lib.Seq.{length-take-le, take-suc}
+use Rattle.leaf_model.specs.Basics.{cleared}
 use Rattle.leaf_work.specs.declared.Entry.{Entry}
-use Rattle.leaf_entries.specs.Lists.{laid, narrowed, gathered}
+use Rattle.leaf_work.specs.Digest.{overwrite}
+use Rattle.leaf_entries.specs.Lists.{narrowed, gathered}
 
 module _ {A : Type 0} where
-  pub laying-keeps-the-length : (new old : List A) → length new ≤ length old → length (laid new old) ≡ length old
+  pub laying-keeps-the-length : (new old : List A) → length new ≤ length old → length (overwrite new old) ≡ length old
   laying-keeps-the-length new old h = length-append new (drop (length new) old) ∙ omega (arith, length-drop (length new) old, h)
 
-  one-more : (new old : List A) (x : A) → length new < length old → set (laid new old) (length new) x ≡ laid (new ++ x ∷ []) old
+  one-more : (new old : List A) (x : A) → length new < length old → set (overwrite new old) (length new) x ≡ overwrite (new ++ x ∷ []) old
   one-more new [] x h = absurd (not-suc-le-zero h)
   one-more [] (y ∷ old) x h = refl
   one-more (z ∷ new) (y ∷ old) x h = ap (λ (l : List A). z ∷ l) (one-more new old x (le-of-suc-le-suc h))
 
-  pub laying-one-more : (new old : List A) (x : A) (i : ℕ) → length new ≡ i → i < length old → set (laid new old) i x ≡ laid (new ++ x ∷ []) old
-  laying-one-more new old x i e h = ap (λ (k : ℕ). set (laid new old) k x) (sym e) ∙ one-more new old x (omega (arith, e, h))
+  pub laying-one-more : (new old : List A) (x : A) (i : ℕ) → length new ≡ i → i < length old → set (overwrite new old) i x ≡ overwrite (new ++ x ∷ []) old
+  laying-one-more new old x i e h = ap (λ (k : ℕ). set (overwrite new old) k x) (sym e) ∙ one-more new old x (omega (arith, e, h))
 
 -- ---- a part of each entry
 
@@ -28,14 +30,14 @@ module _ {A B : Type 0} (f : A → B) (l : List A) where
   as-many-parts : (i : ℕ) → i ≤ length l → length (map f (take i l)) ≡ i
   as-many-parts i h = length-map (take i l) f ∙ length-take-le i l h
 
-  pub laying-parts-keeps-the-length : (old : List B) (i : ℕ) → i ≤ length l → i ≤ length old → length (laid (map f (take i l)) old) ≡ length old
+  pub laying-parts-keeps-the-length : (old : List B) (i : ℕ) → i ≤ length l → i ≤ length old → length (overwrite (map f (take i l)) old) ≡ length old
   laying-parts-keeps-the-length old i h k = laying-keeps-the-length (map f (take i l)) old (omega (arith, as-many-parts i h, k))
 
   one-part-more : (i : ℕ) (d : A) → i < length l → map f (take i l) ++ f (getD l i d) ∷ [] ≡ map f (take (i + 1) l)
   one-part-more i d h = sym (map-append f (take i l) (getD l i d ∷ [])) ∙ ap (map f) (sym (take-suc l i d h)) ∙ ap (λ (k : ℕ). map f (take k l)) (sym (add-one i))
 
-  pub laying-one-part-more : (old : List B) (i : ℕ) (d : A) → i < length l → i < length old → set (laid (map f (take i l)) old) i (f (getD l i d)) ≡ laid (map f (take (i + 1) l)) old
-  laying-one-part-more old i d h k = laying-one-more (map f (take i l)) old (f (getD l i d)) i (as-many-parts i (omega (arith, h))) k ∙ ap (λ (new : List B). laid new old) (one-part-more i d h)
+  pub laying-one-part-more : (old : List B) (i : ℕ) (d : A) → i < length l → i < length old → set (overwrite (map f (take i l)) old) i (f (getD l i d)) ≡ overwrite (map f (take (i + 1) l)) old
+  laying-one-part-more old i d h k = laying-one-more (map f (take i l)) old (f (getD l i d)) i (as-many-parts i (omega (arith, h))) k ∙ ap (λ (new : List B). overwrite new old) (one-part-more i d h)
 
 -- ---- entries made of rows and keys
 
@@ -45,7 +47,7 @@ as-many-entries [] keys (suc i) h k = absurd (not-suc-le-zero h)
 as-many-entries (r ∷ rows) [] (suc i) h k = absurd (not-suc-le-zero k)
 as-many-entries (r ∷ rows) (y ∷ keys) (suc i) h k = ap suc (as-many-entries rows keys i (le-of-suc-le-suc h) (le-of-suc-le-suc k))
 
-pub laying-entries-keeps-the-length : (rows keys : List (List ℕ)) (old : List Entry) (i : ℕ) → i ≤ length rows → i ≤ length keys → i ≤ length old → length (laid (gathered (take i rows) (take i keys)) old) ≡ length old
+pub laying-entries-keeps-the-length : (rows keys : List (List ℕ)) (old : List Entry) (i : ℕ) → i ≤ length rows → i ≤ length keys → i ≤ length old → length (overwrite (gathered (take i rows) (take i keys)) old) ≡ length old
 laying-entries-keeps-the-length rows keys old i h k m = laying-keeps-the-length (gathered (take i rows) (take i keys)) old (omega (arith, as-many-entries rows keys i h k, m))
 
 one-entry-more : (rows keys : List (List ℕ)) (i : ℕ) → i < length rows → i < length keys
@@ -56,38 +58,39 @@ one-entry-more (r ∷ rows) (y ∷ keys) zero h k = refl
 one-entry-more (r ∷ rows) (y ∷ keys) (suc i) h k = ap (λ (l : List Entry). narrowed r y ∷ l) (one-entry-more rows keys i (le-of-suc-le-suc h) (le-of-suc-le-suc k))
 
 pub laying-one-entry-more : (rows keys : List (List ℕ)) (old : List Entry) (i : ℕ) → i < length rows → i < length keys → i < length old
-    → set (laid (gathered (take i rows) (take i keys)) old) i (narrowed (getD rows i []) (getD keys i [])) ≡ laid (gathered (take (i + 1) rows) (take (i + 1) keys)) old
+    → set (overwrite (gathered (take i rows) (take i keys)) old) i (narrowed (getD rows i []) (getD keys i [])) ≡ overwrite (gathered (take (i + 1) rows) (take (i + 1) keys)) old
 laying-one-entry-more rows keys old i h k m =
     laying-one-more (gathered (take i rows) (take i keys)) old (narrowed (getD rows i []) (getD keys i [])) i (as-many-entries rows keys i (omega (arith, h)) (omega (arith, k))) m
-    ∙ ap (λ (new : List Entry). laid new old) (one-entry-more rows keys i h k) ∙ ap (λ (j : ℕ). laid (gathered (take j rows) (take j keys)) old) (sym (add-one i))
+    ∙ ap (λ (new : List Entry). overwrite new old) (one-entry-more rows keys i h k) ∙ ap (λ (j : ℕ). overwrite (gathered (take j rows) (take j keys)) old) (sym (add-one i))
 
 -- ---- one value from an index on
 
-its-own-start : {A : Type 0} (i : ℕ) (l : List A) → laid (take i l) l ≡ l
+its-own-start : {A : Type 0} (i : ℕ) (l : List A) → overwrite (take i l) l ≡ l
 its-own-start zero l = refl
 its-own-start (suc i) [] = refl
 its-own-start (suc i) (y ∷ l) = ap (λ (t : List _). y ∷ t) (its-own-start i l)
 
 module _ {A : Type 0} (x : A) (l : List A) (from : ℕ) where
   -- the list where t places are written
-  abbrev pub cleared : ℕ → List A
-  cleared t = laid (take from l ++ replicate t x) l
+  abbrev pub clearing : ℕ → List A
+  clearing t = overwrite (take from l ++ replicate t x) l
 
-  pub clearing-nothing : cleared 0 ≡ l
-  clearing-nothing = ap (λ (new : List A). laid new l) (append-nil (take from l)) ∙ its-own-start from l
+  pub clearing-nothing : clearing 0 ≡ l
+  clearing-nothing = ap (λ (new : List A). overwrite new l) (append-nil (take from l)) ∙ its-own-start from l
 
   written : (t : ℕ) → length (take from l ++ replicate t x) ≡ min from (length l) + t
   written t = length-append (take from l) (replicate t x) ∙ omega (arith, length-take from l, length-replicate t x)
 
-  pub clearing-keeps-the-length : (t : ℕ) → t ≤ length l - from → length (cleared t) ≡ length l
+  pub clearing-keeps-the-length : (t : ℕ) → t ≤ length l - from → length (clearing t) ≡ length l
   clearing-keeps-the-length t h = laying-keeps-the-length (take from l ++ replicate t x) l (omega (arith, written t, h))
 
-  pub clearing-one-more : (t : ℕ) → t < length l - from → set (cleared t) (from + t) x ≡ cleared (t + 1)
+  pub clearing-one-more : (t : ℕ) → t < length l - from → set (clearing t) (from + t) x ≡ clearing (t + 1)
   clearing-one-more t h =
       laying-one-more (take from l ++ replicate t x) l x (from + t) (omega (arith, written t, h)) (omega (arith, h))
-      ∙ ap (λ (new : List A). laid new l) (append-assoc (take from l) (replicate t x) (x ∷ []) ∙ ap (λ (r : List A). take from l ++ r) (replicate-append-replicate t 1 x))
+      ∙ ap (λ (new : List A). overwrite new l) (append-assoc (take from l) (replicate t x) (x ∷ []) ∙ ap (λ (r : List A). take from l ++ r) (replicate-append-replicate t 1 x))
 
-  pub clearing-all : cleared (length l - from) ≡ take from l ++ replicate (length l - from) x
+  pub clearing-all : clearing (length l - from) ≡ cleared x l from
+  unfolding cleared
   clearing-all =
       let full : length l ≤ length (take from l ++ replicate (length l - from) x) = omega (arith, written (length l - from)) in
       ap (λ (r : List A). take from l ++ replicate (length l - from) x ++ r) (drop-of-length-le l full) ∙ append-nil (take from l ++ replicate (length l - from) x)

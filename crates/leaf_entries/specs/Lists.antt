@@ -1,13 +1,8 @@
--- A list of entries as rows beside keys and back, and entries cleared.
-use mathlib.Core.List.{List, [], _∷_, _++_, map}
-use Prim.Native.Nat.{ℕ, _-_, _%_}
-use lib.ListN.{length, getD, take, drop, replicate}
+-- A list of entries as rows beside keys and back.
+use mathlib.Core.List.{List, [], _∷_}
+use Prim.Native.Nat.{ℕ, _%_}
+use lib.ListN.{getD}
 use Rattle.leaf_work.specs.declared.Entry.{Entry}
-use Rattle.leaf_work.specs.Lent.{blank}
-
--- the start of a list written over
-abbrev pub laid : {A : Type 0} → List A → List A → List A
-laid new old = new ++ drop (length new) old
 
 -- a row and a key as an entry: kind and flag have a byte each
 abbrev pub narrowed : List ℕ → List ℕ → Entry
@@ -18,7 +13,3 @@ abbrev pub gathered : List (List ℕ) → List (List ℕ) → List Entry
 gathered [] keys = []
 gathered (r ∷ rs) [] = []
 gathered (r ∷ rs) (k ∷ ks) = narrowed r k ∷ gathered rs ks
-
--- unused from an index on
-abbrev pub drained : ℕ → List Entry → List Entry
-drained from list = take from list ++ replicate (length list - from) blank

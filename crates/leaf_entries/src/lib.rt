@@ -14,12 +14,14 @@ ghost use mathlib.Core.Path.{_≡_};
 ghost use mathlib.Core.List.{map};
 ghost use Prim.Native.Nat.{_≤_};
 ghost use lib.ListN.{length, set, take};
+ghost use Rattle.leaf_model.specs.Basics.{cleared};
 ghost use Rattle.leaf_work.specs.Lent.{blank};
 ghost use Rattle.leaf_work.specs.Flat.{rowOf};
+ghost use Rattle.leaf_work.specs.Digest.{overwrite};
 ghost use Rattle.leaf_passed.specs.Passed.{PassingOn, passedOver};
 ghost use Rattle.leaf_passed.specs.Behind.{unusedOver};
 ghost use Rattle.leaf_passed.specs.Sought.{soughtOver};
-ghost use Rattle.leaf_entries.specs.Lists.{laid, narrowed, gathered, drained};
+ghost use Rattle.leaf_entries.specs.Lists.{narrowed, gathered};
 
 // ---- one entry, by value
 
@@ -131,7 +133,7 @@ pub fn insert(list: &mut [Entry], at: usize, entry: Entry)
 
 // Entries are unused from index `from` on.
 pub fn drain(list: &mut [Entry], from: usize)
-    ensures { λ _. ⌜ now (list .exit) ≡ drained from (now (list .entry)) ⌝ }
+    ensures { λ _. ⌜ now (list .exit) ≡ cleared blank (now (list .entry)) from ⌝ }
 {
     let mut i = from;
     while i < list.len() {
@@ -145,7 +147,7 @@ pub fn drain(list: &mut [Entry], from: usize)
 // The first `count` entries, as rows and beside them keys.
 pub fn split(list: &[Entry], rows: &mut [[usize; 5]], keys: &mut [[u8; 32]], count: usize)
     requires { ⌜ (count ≤ length (now list)) × (count ≤ length (now rows)) × (count ≤ length (now keys)) ⌝ }
-    ensures { λ _. ⌜ (now (rows .exit) ≡ laid (map rowOf (take count (now (list .entry)))) (now (rows .entry))) × (now (keys .exit) ≡ laid (map (λ e. e .key) (take count (now (list .entry)))) (now (keys .entry))) ⌝ }
+    ensures { λ _. ⌜ (now (rows .exit) ≡ overwrite (map rowOf (take count (now (list .entry)))) (now (rows .entry))) × (now (keys .exit) ≡ overwrite (map (λ e. e .key) (take count (now (list .entry)))) (now (keys .entry))) ⌝ }
 {
     let mut i = 0;
     while i < count {
@@ -159,7 +161,7 @@ pub fn split(list: &[Entry], rows: &mut [[usize; 5]], keys: &mut [[u8; 32]], cou
 // The first `count` rows and keys, as entries again.
 pub fn gather(list: &mut [Entry], rows: &[[usize; 5]], keys: &[[u8; 32]], count: usize)
     requires { ⌜ (count ≤ length (now list)) × (count ≤ length (now rows)) × (count ≤ length (now keys)) ⌝ }
-    ensures { λ _. ⌜ now (list .exit) ≡ laid (gathered (take count (now (rows .entry))) (take count (now (keys .entry)))) (now (list .entry)) ⌝ }
+    ensures { λ _. ⌜ now (list .exit) ≡ overwrite (gathered (take count (now (rows .entry))) (take count (now (keys .entry)))) (now (list .entry)) ⌝ }
 {
     let mut i = 0;
     while i < count {

@@ -33,9 +33,9 @@ use Rattle.leaf_ingest.specs.declared.Kept.{Kept}
 use Rattle.leaf_ingest.specs.declared.Ingested.{Ingested}
 use Rattle.leaf_ingest.specs.declared.Report.the-variants.{Refused}
 use Rattle.leaf_ingest.specs.Reply.{changeOf, replyOf}
-use Rattle.leaf_ingest.specs.Steps.{Taken, stepVerdict, addedBy, spliced, insertEntries, chunkEntries, entriesWith, rowsOf, keysOf, reportBy, workWith, Room, Stepped, rowsWith, Leaves, Takes}
+use Rattle.leaf_ingest.specs.Steps.{Taken, stepVerdict, addedBy, insertEntries, chunkEntries, entriesWith, rowsOf, keysOf, reportBy, workWith, Room, Stepped, rowsWith, Leaves, Takes}
 use Rattle.leaf_ingest.proofs.Numbers.{the-list-is-as-long, the-number-is-that-of-the-call, range-length, range-total, added-records, pending-is, pending-bytes-are}
-use Rattle.leaf_ingest.proofs.Splicing.{map-spliced, keys-of-entries, the-list-is-spliced}
+use Rattle.leaf_ingest.proofs.Splicing.{map-put, keys-of-entries, the-list-is-put}
 
 -- ---- what is required
 
@@ -182,25 +182,25 @@ module _ (size : ℕ) (w : Work) (rows keys : List (List ℕ)) (store page : Lis
 
       pub an-accepted-ingest-leaves-its-outcome : (r : Ingested) (rows′ keys′ : List (List ℕ)) (store′ : List ℕ) → Stepped w page k kept c rows keys store r rows′ keys′ store′
           → Leaves (outcome.ingestOn size w (listOf rows keys) store page k c 0) (w .used) (newEntries w page k c) rows keys r rows′ keys′ store′
-      unfolding put spliced
+      unfolding put
       an-accepted-ingest-leaves-its-outcome r rows′ keys′ store′ s =
           let n : outcome.ingestNumber (outcome.reportOf size w (listOf rows keys) store page k c) ≡ 0 = report-number (reports w page k) _ _ in
           let es = entries-are w page k kept g c in
-          let rs : rows′ ≡ spliced rows (w .used) (rowsOf (newEntries w page k c)) = s .rows-is ∙ rw es in
-          let ks : keys′ ≡ spliced keys (w .used) (keysOf (newEntries w page k c)) = s .keys-is ∙ rw es in
+          let rs : rows′ ≡ put rows (w .used) (rowsOf (newEntries w page k c)) = s .rows-is ∙ rw es in
+          let ks : keys′ ≡ put keys (w .used) (keysOf (newEntries w page k c)) = s .keys-is ∙ rw es in
           rw accepted (record {
             reply-is = s .reply-is ∙ report-is w page k kept g size (listOf rows keys) store c;
             work-is = s .work-is ∙ work-is w page k kept g size (listOf rows keys) store c;
             rows-is = rw (rowsWith, n) rs;
             keys-is = rw (keysAfter, n) (ks ∙ keys-after);
             store-is = s .store-is;
-            list-is = rw (rs, ks) (the-list-is-spliced rows keys as-many (w .used) (newEntries w page k c) ∙ rw the-list);
+            list-is = rw (rs, ks) (the-list-is-put rows keys as-many (w .used) (newEntries w page k c) ∙ rw the-list);
           })
         where
-          keys-after : spliced keys (w .used) (keysOf (newEntries w page k c)) ≡ keysOf (outcome.ingestDone size w (listOf rows keys) store page k c .list)
+          keys-after : put keys (w .used) (keysOf (newEntries w page k c)) ≡ keysOf (outcome.ingestDone size w (listOf rows keys) store page k c .list)
           keys-after =
-              rw (the-list) (ap (λ (x : List (List ℕ)). spliced x (w .used) (keysOf (newEntries w page k c))) (sym (keys-of-entries rows keys as-many))
-              ∙ sym (map-spliced (λ (e : Entry). e .key) (entriesOf rows keys) (w .used) (newEntries w page k c)))
+              rw (the-list) (ap (λ (x : List (List ℕ)). put x (w .used) (keysOf (newEntries w page k c))) (sym (keys-of-entries rows keys as-many))
+              ∙ sym (map-put (λ (e : Entry). e .key) (entriesOf rows keys) (w .used) (newEntries w page k c)))
 
 -- ---- the call
 

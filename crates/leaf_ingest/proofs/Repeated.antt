@@ -12,6 +12,7 @@ use lib.Seq.{length-take-le}
 use borrow.Author.Tests.{eqb-true, ltb-true}
 use Rattle.leaf_node.specs.Limits.{PageSize}
 use Rattle.leaf_node.specs.Page.{count, valuesSize}
+use Rattle.leaf_node.specs.Build.{put}
 use Rattle.leaf_node.specs.Fits.{All, nil, cons}
 use Rattle.leaf_model.specs.Work.{Change, inserted}
 use Rattle.leaf_model.proofs.Lists.{all-append, all-map}
@@ -27,10 +28,11 @@ use Rattle.leaf_work.specs.Ready.{EntryIn, Ready}
 use Rattle.leaf_work.proofs.Tests.{first-passed}
 use Rattle.leaf_work.proofs.FlatList.{rows-and-keys-agree}
 use Rattle.leaf_work.proofs.Searching.{Split, the-search-splits-the-rest}
+use Rattle.leaf_builder.proofs.Putting.{length-put}
 use Rattle.leaf_ingest.specs.declared.Ingested.{Ingested}
-use Rattle.leaf_ingest.specs.Steps.{spliced, rowsOf, rowsWith, Leaves, Takes}
+use Rattle.leaf_ingest.specs.Steps.{rowsOf, rowsWith, Leaves, Takes}
 use Rattle.leaf_ingest.proofs.Numbers.{range-length, range-total}
-use Rattle.leaf_ingest.proofs.Splicing.{spliced-length, map-spliced, Five, rows-of-entries}
+use Rattle.leaf_ingest.proofs.Splicing.{map-put, Five, rows-of-entries}
 use Rattle.leaf_ingest.proofs.Ingests.{accepted-things-take-an-ingest, Passed, passed-rows, report-number}
 
 -- ---- entries that lie in store and passed part
@@ -103,12 +105,12 @@ module _ (size : ℕ) (w : Work) (list : List Entry) (store page k : List ℕ) (
     store′ = outcome.ingestDone size w list store page k c .store
 
     list-length : length list′ ≡ length list
-    unfolding spliced
-    list-length = spliced-length list (w .used) (newEntries w page k c) list-room
+    unfolding put
+    list-length = length-put list (w .used) (newEntries w page k c) list-room
 
     store-length : length store′ ≡ length store
-    unfolding spliced
-    store-length = spliced-length store (w .filled) (valueOf c) store-room
+    unfolding put
+    store-length = length-put store (w .filled) (valueOf c) store-room
 
     listed-in : All (EntryIn (lowAfter w page k) (w .filled + length (valueOf c))) (take (w .used) list ++ newEntries w page k c)
     listed-in =
@@ -201,14 +203,14 @@ module _ (size : ℕ) (w : Work) (rows keys : List (List ℕ)) (store page k : L
   unfolding ingestVerdict
   lent-accepted z = first-passed lent _ z .0
 
-  rows-are : lent ≡ 0 → spliced rows (w .used) (rowsOf added) ≡ rowsOf (outcome.ingestDone size w (listOf rows keys) store (regarded w page) k c .list)
-  unfolding spliced
+  rows-are : lent ≡ 0 → put rows (w .used) (rowsOf added) ≡ rowsOf (outcome.ingestDone size w (listOf rows keys) store (regarded w page) k c .list)
+  unfolding put
   rows-are z =
       let t = accepted-things-take-an-ingest size w (listOf rows keys) store page lent refl z q (regarded w page) refl in
       let a = rows-and-keys-agree rows keys (t .ready .list-there) in
       rw (a .1) (
-      ap (λ (x : List (List ℕ)). spliced x (w .used) (rowsOf added)) (sym (rows-of-entries rows keys (a .0) five))
-      ∙ sym (map-spliced rowOf (entriesOf rows keys) (w .used) added)
+      ap (λ (x : List (List ℕ)). put x (w .used) (rowsOf added)) (sym (rows-of-entries rows keys (a .0) five))
+      ∙ sym (map-put rowOf (entriesOf rows keys) (w .used) added)
       )
 
   pub an-ingest-leaves-the-rows-of-its-list : rowsWith (outcome.ingestNumber (o .reply)) (w .used) added rows ≡ rowsAfter (outcome.ingestNumber (o .reply)) (o .list) rows

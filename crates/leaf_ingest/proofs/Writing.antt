@@ -17,37 +17,38 @@ use Rattle.leaf_work.specs.Flat.{rowOf}
 use Rattle.leaf_work.specs.TakingUp.{valueOf}
 use Rattle.leaf_work.specs.Outcome as outcome
 use Rattle.leaf_work.proofs.Tests.{map-append}
+use Rattle.leaf_builder.proofs.Putting.{put-none, put-put}
 use Rattle.leaf_ingest.specs.declared.Change as taken
 use Rattle.leaf_ingest.specs.declared.Change.the-variants.{Put, Delete}
 use Rattle.leaf_ingest.specs.declared.Kept.{Kept}
 use Rattle.leaf_ingest.specs.declared.Report.{Report}
 use Rattle.leaf_ingest.specs.Reply.{changeOf, replyOf}
-use Rattle.leaf_ingest.specs.Steps.{Sizes, addedBy, spliced, chunkEntries, insertEntries, entriesWith, rowsOf, keysOf, reportBy, workWith, Room, Stepped}
+use Rattle.leaf_ingest.specs.Steps.{Sizes, addedBy, chunkEntries, insertEntries, entriesWith, rowsOf, keysOf, reportBy, workWith, Room, Stepped}
 use Rattle.leaf_ingest.proofs.Numbers.{added-records}
-use Rattle.leaf_ingest.proofs.Splicing.{spliced-none, spliced-one, spliced-twice}
+use Rattle.leaf_ingest.proofs.Splicing.{put-one}
 
 -- ---- the new entries
 
 module _ (rows keys : List (List ℕ)) (at low stop sum : ℕ) where
   pub no-chunk-is-listed : stop ≤ low
-      → (at ≡ at + length (chunkEntries low stop sum)) × (at ≤ at + (stop - low)) × (rows ≡ spliced rows at (rowsOf (chunkEntries low stop sum)))
-      × (keys ≡ spliced keys at (keysOf (chunkEntries low stop sum)))
+      → (at ≡ at + length (chunkEntries low stop sum)) × (at ≤ at + (stop - low)) × (rows ≡ put rows at (rowsOf (chunkEntries low stop sum)))
+      × (keys ≡ put keys at (keysOf (chunkEntries low stop sum)))
   unfolding chunkEntries
-  no-chunk-is-listed h = rw (chunkEntries, le-ltb low stop h) (omega arith, omega arith, sym (spliced-none rows at), sym (spliced-none keys at))
+  no-chunk-is-listed h = rw (chunkEntries, le-ltb low stop h) (omega arith, omega arith, sym (put-none rows at), sym (put-none keys at))
 
   pub a-chunk-is-listed : low < stop → at + (stop - low) ≤ length rows → length rows ≡ length keys
-      → (at + 1 ≡ at + length (chunkEntries low stop sum)) × (at + 1 ≤ at + (stop - low)) × (set rows at (2 ∷ 0 ∷ low ∷ stop ∷ sum ∷ []) ≡ spliced rows at (rowsOf (chunkEntries low stop sum)))
-      × (set keys at (replicate 32 0) ≡ spliced keys at (keysOf (chunkEntries low stop sum)))
+      → (at + 1 ≡ at + length (chunkEntries low stop sum)) × (at + 1 ≤ at + (stop - low)) × (set rows at (2 ∷ 0 ∷ low ∷ stop ∷ sum ∷ []) ≡ put rows at (rowsOf (chunkEntries low stop sum)))
+      × (set keys at (replicate 32 0) ≡ put keys at (keysOf (chunkEntries low stop sum)))
   unfolding chunkEntries
   a-chunk-is-listed h r e =
-      rw (chunkEntries, lt-ltb low stop h) (refl, omega arith, spliced-one rows at (2 ∷ 0 ∷ low ∷ stop ∷ sum ∷ []) (omega arith), spliced-one keys at (replicate 32 0) (omega arith))
+      rw (chunkEntries, lt-ltb low stop h) (refl, omega arith, put-one rows at (2 ∷ 0 ∷ low ∷ stop ∷ sum ∷ []) (omega arith), put-one keys at (replicate 32 0) (omega arith))
 
 module _ (rows keys : List (List ℕ)) (at from : ℕ) (k : List ℕ) (change : taken.Change) (value : List ℕ) where
   pub a-deletion-lists-nothing : change ≡ Delete
-      → (at ≡ at + length (insertEntries from k (changeOf change value))) × (rows ≡ spliced rows at (rowsOf (insertEntries from k (changeOf change value))))
-      × (keys ≡ spliced keys at (keysOf (insertEntries from k (changeOf change value))))
+      → (at ≡ at + length (insertEntries from k (changeOf change value))) × (rows ≡ put rows at (rowsOf (insertEntries from k (changeOf change value))))
+      × (keys ≡ put keys at (keysOf (insertEntries from k (changeOf change value))))
   unfolding insertEntries
-  a-deletion-lists-nothing e = rw e (omega arith, sym (spliced-none rows at), sym (spliced-none keys at))
+  a-deletion-lists-nothing e = rw e (omega arith, sym (put-none rows at), sym (put-none keys at))
 
   module _ (flag : Bool) (e : change ≡ Put flag) (r : at + addedBy change ≤ length rows) where
     pub an-insert-has-a-row : at < length rows
@@ -55,25 +56,25 @@ module _ (rows keys : List (List ℕ)) (at from : ℕ) (k : List ℕ) (change : 
 
     pub an-insert-is-listed : length rows ≡ length keys → (rows′ keys′ : List (List ℕ))
         → rows′ ≡ set rows at (rowOf (insertAt from (from + length value) k (bit flag))) → keys′ ≡ set keys at k
-        → (at + 1 ≡ at + length (insertEntries from k (changeOf change value))) × (rows′ ≡ spliced rows at (rowsOf (insertEntries from k (changeOf change value))))
-        × (keys′ ≡ spliced keys at (keysOf (insertEntries from k (changeOf change value))))
+        → (at + 1 ≡ at + length (insertEntries from k (changeOf change value))) × (rows′ ≡ put rows at (rowsOf (insertEntries from k (changeOf change value))))
+        × (keys′ ≡ put keys at (keysOf (insertEntries from k (changeOf change value))))
     unfolding insertEntries
     an-insert-is-listed l rows′ keys′ p q =
         rw (e, p, q) (
           refl,
-          spliced-one rows at (rowOf (insertAt from (from + length value) k (bit flag))) an-insert-has-a-row,
-          spliced-one keys at k (omega (arith, an-insert-has-a-row)),
+          put-one rows at (rowOf (insertAt from (from + length value) k (bit flag))) an-insert-has-a-row,
+          put-one keys at k (omega (arith, an-insert-has-a-row)),
         )
 
 -- first `chunk`, then `insert`
 module _ (rows keys : List (List ℕ)) (at : ℕ) (chunk insert : List Entry) (h : at ≤ length rows) (l : length rows ≡ length keys) (next : ℕ) (e : next ≡ at + length chunk) where
-  pub entries-stand-behind-each-other : (rows′ keys′ rows″ keys″ : List (List ℕ)) (last : ℕ) → rows′ ≡ spliced rows at (rowsOf chunk) → keys′ ≡ spliced keys at (keysOf chunk)
-      → last ≡ next + length insert → rows″ ≡ spliced rows′ next (rowsOf insert) → keys″ ≡ spliced keys′ next (keysOf insert)
-      → (last ≡ at + length (chunk ++ insert)) × (rows″ ≡ spliced rows at (rowsOf (chunk ++ insert))) × (keys″ ≡ spliced keys at (keysOf (chunk ++ insert)))
+  pub entries-stand-behind-each-other : (rows′ keys′ rows″ keys″ : List (List ℕ)) (last : ℕ) → rows′ ≡ put rows at (rowsOf chunk) → keys′ ≡ put keys at (keysOf chunk)
+      → last ≡ next + length insert → rows″ ≡ put rows′ next (rowsOf insert) → keys″ ≡ put keys′ next (keysOf insert)
+      → (last ≡ at + length (chunk ++ insert)) × (rows″ ≡ put rows at (rowsOf (chunk ++ insert))) × (keys″ ≡ put keys at (keysOf (chunk ++ insert)))
   entries-stand-behind-each-other rows′ keys′ rows″ keys″ last p q f u v = (
     omega (arith, length-append chunk insert),
-    u ∙ rw (p, e, ← length-map chunk rowOf, map-append rowOf chunk insert) (spliced-twice rows at (rowsOf chunk) (rowsOf insert) h),
-    v ∙ rw (q, e, ← length-map chunk (λ (x : Entry). x .key), map-append (λ (x : Entry). x .key) chunk insert) (spliced-twice keys at (keysOf chunk) (keysOf insert) (omega arith)),
+    u ∙ rw (p, e, ← length-map chunk rowOf, map-append rowOf chunk insert) (put-put rows at (rowsOf chunk) (at + length (rowsOf chunk)) (rowsOf insert) refl h),
+    v ∙ rw (q, e, ← length-map chunk (λ (x : Entry). x .key), map-append (λ (x : Entry). x .key) chunk insert) (put-put keys at (keysOf chunk) (at + length (keysOf chunk)) (keysOf insert) refl (omega arith)),
   )
 
 -- ---- the report
@@ -115,8 +116,8 @@ module _ (w : Work) (page : List ℕ) (z : Kept) (change : taken.Change) (value 
   the-gauge-is-small a f = (rw f (r .sizes), omega (arith, the-value-has-room, r .store-short))
 
   pub an-accepted-ingest-is-stepped : (k : List ℕ) (used : ℕ) (rows′ keys′ : List (List ℕ)) (store′ : List ℕ) (reply : Report) (a : ℕ) (next : Work)
-      → (used ≡ w .used + length (entriesWith w k z (changeOf change value))) × (rows′ ≡ spliced rows (w .used) (rowsOf (entriesWith w k z (changeOf change value))))
-      × (keys′ ≡ spliced keys (w .used) (keysOf (entriesWith w k z (changeOf change value))))
+      → (used ≡ w .used + length (entriesWith w k z (changeOf change value))) × (rows′ ≡ put rows (w .used) (rowsOf (entriesWith w k z (changeOf change value))))
+      × (keys′ ≡ put keys (w .used) (keysOf (entriesWith w k z (changeOf change value))))
       → store′ ≡ put store (w .filled) x → replyOf reply ≡ reportBy (w .low) page (z .stop) (z .dropped) → a ≡ addedBy change → next ≡ workWith w k z used a (length x)
       → Stepped w page k z (changeOf change value) rows keys store (record { reply = reply; work = next }) rows′ keys′ store′
   an-accepted-ingest-is-stepped k used rows′ keys′ store′ reply a next u s p f n =

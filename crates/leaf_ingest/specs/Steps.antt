@@ -107,10 +107,6 @@ addedBy Delete = 0
 
 -- ---- what it writes
 
--- xs with `new` in the place of as many elements from index `at` on
-unfoldable pub spliced : {A : Type 0} → List A → ℕ → List A → List A
-spliced xs at new = take at xs ++ new ++ drop (at + length new) xs
-
 -- no empty chunk is listed
 unfoldable pub chunkEntries : ℕ → ℕ → ℕ → List Entry
 chunkEntries low stop sum = elim (ltb low stop) [ true ↦ chunkOf low stop sum ∷ [] | false ↦ [] ]
@@ -168,15 +164,15 @@ pub record Room (w : Work) (page : List ℕ) (z : Kept) (added len : ℕ) (rows 
 pub record Stepped (w : Work) (page k : List ℕ) (z : Kept) (c : Option Change) (rows keys : List (List ℕ)) (store : List ℕ) (r : Ingested) (rows′ keys′ : List (List ℕ)) (store′ : List ℕ) : Type 0 where
   pub reply-is : replyOf (r .reply) ≡ reportBy (w .low) page (z .stop) (z .dropped)
   pub work-is : r .work ≡ workWith w k z (w .used + length (entriesWith w k z c)) (length (inserted k c)) (length (valueOf c))
-  pub rows-is : rows′ ≡ spliced rows (w .used) (rowsOf (entriesWith w k z c))
-  pub keys-is : keys′ ≡ spliced keys (w .used) (keysOf (entriesWith w k z c))
+  pub rows-is : rows′ ≡ put rows (w .used) (rowsOf (entriesWith w k z c))
+  pub keys-is : keys′ ≡ put keys (w .used) (keysOf (entriesWith w k z c))
   pub store-is : store′ ≡ put store (w .filled) (valueOf c)
 
 -- ---- the call
 
 -- what an ingest leaves in the rows: those of its new entries stand behind the used ones where it is accepted, else what they held
 abbrev pub rowsWith : ℕ → ℕ → List Entry → List (List ℕ) → List (List ℕ)
-rowsWith number used new rows = elim (eqb number accepted) [ true ↦ spliced rows used (rowsOf new) | false ↦ rows ]
+rowsWith number used new rows = elim (eqb number accepted) [ true ↦ put rows used (rowsOf new) | false ↦ rows ]
 
 -- what an ingest with the outcome o leaves; the list that rows and keys then stand for is that of o
 pub record Leaves (o : outcome.Ingested) (used : ℕ) (new : List Entry) (rows keys : List (List ℕ)) (r : Ingested) (rows′ keys′ : List (List ℕ)) (store′ : List ℕ) : Type 0 where

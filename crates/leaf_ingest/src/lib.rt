@@ -25,6 +25,7 @@ ghost use Prim.Native.Nat.{_+_, _-_, _≤_};
 ghost use lib.ListN.{length};
 ghost use Rattle.leaf_node.specs.Limits.{PageSize};
 ghost use Rattle.leaf_node.specs.Page.{count};
+ghost use Rattle.leaf_node.specs.Build.{put};
 ghost use Rattle.leaf_node.specs.Steps.{Laid, Readable};
 ghost use Rattle.leaf_work.specs.Tests.{bit};
 ghost use Rattle.leaf_work.specs.Lent.{regarded};
@@ -32,7 +33,7 @@ ghost use Rattle.leaf_work.specs.Flat.{listOf, keysAfter};
 ghost use Rattle.leaf_work.specs.TakingUp.{valueOf, newEntries};
 ghost use Rattle.leaf_work.specs.Outcome as outcome;
 ghost use Rattle.leaf_ingest.specs.Reply.{changeOf, replyOf};
-ghost use Rattle.leaf_ingest.specs.Steps.{Base, KeptAt, Taken, Sizes, roomVerdict, stepVerdict, addedBy, spliced, chunkEntries, insertEntries, entriesWith, rowsOf, keysOf, reportBy, workWith, Room, Stepped, rowsWith, Leaves, Admits, Takes};
+ghost use Rattle.leaf_ingest.specs.Steps.{Base, KeptAt, Taken, Sizes, roomVerdict, stepVerdict, addedBy, chunkEntries, insertEntries, entriesWith, rowsOf, keysOf, reportBy, workWith, Room, Stepped, rowsWith, Leaves, Admits, Takes};
 
 // A new value with its flag, or a deletion. The value's bytes stand beside it; a deletion ignores them.
 pub enum Change {
@@ -230,7 +231,7 @@ fn put_chunk(
     sum: usize,
 ) -> usize
     requires { ⌜ (at + (stop - low) ≤ length (now rows)) × (length (now rows) ≡ length (now keys)) ⌝ }
-    ensures { λ r. ⌜ (r ≡ at + length (chunkEntries low stop sum)) × (r ≤ at + (stop - low)) × (now (rows .exit) ≡ spliced (now (rows .entry)) at (rowsOf (chunkEntries low stop sum))) × (now (keys .exit) ≡ spliced (now (keys .entry)) at (keysOf (chunkEntries low stop sum))) ⌝ }
+    ensures { λ r. ⌜ (r ≡ at + length (chunkEntries low stop sum)) × (r ≤ at + (stop - low)) × (now (rows .exit) ≡ put (now (rows .entry)) at (rowsOf (chunkEntries low stop sum))) × (now (keys .exit) ≡ put (now (keys .entry)) at (keysOf (chunkEntries low stop sum))) ⌝ }
 {
     if stop <= low {
         return at;
@@ -253,7 +254,7 @@ fn put_insert(
     value: &[u8],
 ) -> usize
     requires { ⌜ (at + addedBy change ≤ length (now rows)) × (length (now rows) ≡ length (now keys)) × (from + length (valueOf (changeOf change (now value))) ≤ 65536) ⌝ }
-    ensures { λ r. ⌜ (r ≡ at + length (insertEntries from (now (key .entry)) (changeOf change (now (value .entry))))) × (now (rows .exit) ≡ spliced (now (rows .entry)) at (rowsOf (insertEntries from (now (key .entry)) (changeOf change (now (value .entry)))))) × (now (keys .exit) ≡ spliced (now (keys .entry)) at (keysOf (insertEntries from (now (key .entry)) (changeOf change (now (value .entry)))))) ⌝ }
+    ensures { λ r. ⌜ (r ≡ at + length (insertEntries from (now (key .entry)) (changeOf change (now (value .entry))))) × (now (rows .exit) ≡ put (now (rows .entry)) at (rowsOf (insertEntries from (now (key .entry)) (changeOf change (now (value .entry)))))) × (now (keys .exit) ≡ put (now (keys .entry)) at (keysOf (insertEntries from (now (key .entry)) (changeOf change (now (value .entry)))))) ⌝ }
 {
     match change {
         Change::Delete => at,
@@ -275,7 +276,7 @@ fn put_entries(
     value: &[u8],
 ) -> usize
     requires { ⌜ (work .low ≤ kept .stop) × (work .used + (kept .stop - work .low) + addedBy change ≤ length (now rows)) × (length (now rows) ≡ length (now keys)) × (work .filled + length (valueOf (changeOf change (now value))) ≤ 65536) ⌝ }
-    ensures { λ r. ⌜ (r ≡ work .used + length (entriesWith work (now (key .entry)) kept (changeOf change (now (value .entry))))) × (now (rows .exit) ≡ spliced (now (rows .entry)) (work .used) (rowsOf (entriesWith work (now (key .entry)) kept (changeOf change (now (value .entry)))))) × (now (keys .exit) ≡ spliced (now (keys .entry)) (work .used) (keysOf (entriesWith work (now (key .entry)) kept (changeOf change (now (value .entry)))))) ⌝ }
+    ensures { λ r. ⌜ (r ≡ work .used + length (entriesWith work (now (key .entry)) kept (changeOf change (now (value .entry))))) × (now (rows .exit) ≡ put (now (rows .entry)) (work .used) (rowsOf (entriesWith work (now (key .entry)) kept (changeOf change (now (value .entry)))))) × (now (keys .exit) ≡ put (now (keys .entry)) (work .used) (keysOf (entriesWith work (now (key .entry)) kept (changeOf change (now (value .entry)))))) ⌝ }
 {
     let at = put_chunk(rows, keys, work.used, work.low, kept.stop, kept.taken);
     put_insert(rows, keys, at, work.filled, key, change, value)

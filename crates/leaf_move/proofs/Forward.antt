@@ -8,7 +8,8 @@ use lib.ListN.{length, getD, set, take, drop, replicate, length-set, length-appe
 use lib.Seq.{length-take-le, take-suc, take-all, take-at, drop-cons, getD-append-add, getD-drop, set-at, append-snoc}
 use Rattle.bit_ops.specs.Steps.{zeros}
 use Rattle.leaf_node.specs.Build.{put}
-use Rattle.leaf_move.specs.Moving.{lowered, cleared, settled}
+use Rattle.leaf_model.specs.Basics.{cleared}
+use Rattle.leaf_move.specs.Moving.{lowered, settled}
 
 -- the first i of new, then what was there
 pub record Overlaid {A : Type 0} (new before now : List A) (i : ℕ) : Type 0 where

@@ -12,10 +12,6 @@ under xs t new = take (t - length new) xs ++ new ++ drop t xs
 unfoldable pub lowered : {A : Type 0} → List A → ℕ → List A
 lowered xs count = drop (length xs - count) xs ++ drop count xs
 
--- z from index `from` on
-unfoldable pub cleared : {A : Type 0} → A → List A → ℕ → List A
-cleared z xs from = take from xs ++ replicate (length xs - from) z
-
 -- the last `count` elements at the start, and z behind them
 unfoldable pub settled : {A : Type 0} → A → List A → ℕ → List A
 settled z xs count = drop (length xs - count) xs ++ replicate (length xs - count) z

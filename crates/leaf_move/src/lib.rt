@@ -4,11 +4,12 @@ use leaf_builder::clear_between;
 ghost use mathlib.Core.Path.{_≡_};
 ghost use Prim.Native.Nat.{_-_, _≤_, _<_, max};
 ghost use lib.ListN.{length, set, take, drop};
+ghost use Rattle.leaf_model.specs.Basics.{cleared};
 ghost use Rattle.leaf_model.specs.Work.{zeroKey};
 ghost use Rattle.leaf_work.specs.Tests.{bit};
 ghost use Rattle.leaf_work.specs.Lent.{blank, insertAt};
 ghost use Rattle.leaf_work.specs.Flat.{rowOf};
-ghost use Rattle.leaf_move.specs.Moving.{under, lowered, cleared, settled, Spare};
+ghost use Rattle.leaf_move.specs.Moving.{under, lowered, settled, Spare};
 
 // ---- an insert
 

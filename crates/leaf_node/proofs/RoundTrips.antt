@@ -19,7 +19,7 @@ use Rattle.leaf_node.specs.Limits.{PageSize, bodyLimit, recordLimit, val
 use Rattle.leaf_node.specs.Record.{Record, body, values, total}
 use Rattle.leaf_node.specs.Page.{word, count, pointer, keyAt, numberAt, offsetAt, flagAt, start, lengthAt, valueAt, recordAt, run, recordsBetween, records, valuesSize, bodySize}
 use Rattle.leaf_node.specs.Good.{OffsetsRight, ValuesFit, KeysRise, Good}
-use Rattle.leaf_node.specs.Build.{le16, tagged, pointers, build, cleared}
+use Rattle.leaf_node.specs.Build.{le16, tagged, pointers, build, gapCleared}
 use Rattle.leaf_node.specs.Steps.{Laid}
 use Rattle.leaf_node.specs.Fits.{All, cons, Keyed, Fitting, Ascending, rise-none, rise-one, rise-more, Fits, Proper}
 use Rattle.leaf_node.proofs.Reading.{start-in, start-end, pointers-end-before-values, good-pages-are-laid}
@@ -370,8 +370,8 @@ module _ (p : List ℕ) (l : Laid p (count p)) where
   unfolding records recordsBetween
   pointers-all bytes = rw sub-zero (pointers-run p (count p) l bytes (count p) 0 (omega arith))
 
-  build-laid : Bytes p → pointer (count p) ≤ start p 0 → build (length p) (records p) ≡ cleared p
-  unfolding build cleared
+  build-laid : Bytes p → pointer (count p) ≤ start p 0 → build (length p) (records p) ≡ gapCleared p
+  unfolding build gapCleared
   build-laid bytes h =
       let le = start-inside p (count p) l 0 (omega arith) in
       let u : length p - (length p - start p 0) ≡ start p 0 = omega arith in
@@ -380,7 +380,7 @@ module _ (p : List ℕ) (l : Laid p (count p)) where
 -- ---- good pages
 
 module _ (size : ℕ) (p : List ℕ) (s : PageSize size) (g : Good size p) where
-  pub a-good-page-builds-itself-with-a-cleared-gap : Bytes p → build size (records p) ≡ cleared p
+  pub a-good-page-builds-itself-with-a-cleared-gap : Bytes p → build size (records p) ≡ gapCleared p
   a-good-page-builds-itself-with-a-cleared-gap bytes =
       rw (← (g .sized)) (build-laid p (good-pages-are-laid size p s g) bytes (pointers-end-before-values size p s g))
 

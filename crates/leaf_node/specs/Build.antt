@@ -27,11 +27,11 @@ build size rs =
     le16 (length rs) ++ (pointers first rs ++ (zeros (first - pointer (length rs)) ++ values rs))
 
 -- "Built pages hold zeros in the gap before the first value": a page with its gap zeroed
-unfoldable pub cleared : List ℕ → List ℕ
-cleared p = take (pointer (count p)) p ++ (zeros (start p 0 - pointer (count p)) ++ drop (start p 0) p)
+unfoldable pub gapCleared : List ℕ → List ℕ
+gapCleared p = take (pointer (count p)) p ++ (zeros (start p 0 - pointer (count p)) ++ drop (start p 0) p)
 
--- d with s in the place of as many bytes from index `at` on
-unfoldable pub put : List ℕ → ℕ → List ℕ → List ℕ
+-- d with s in the place of as many elements from index `at` on
+unfoldable pub put : {A : Type 0} → List A → ℕ → List A → List A
 put d at s = take at d ++ s ++ drop (at + length s) d
 
 -- the builder's start: the count, and zeros in the gap of a page that takes n records with t bytes of values

@@ -8,6 +8,7 @@ use lib.ListN.{length, take, replicate}
 use lib.Seq.{take-length}
 use borrow.Author.Tests.{not-true, not-false}
 use Rattle.bit_ops.specs.Steps.{zeros}
+use Rattle.leaf_model.specs.Basics.{cleared}
 use Rattle.leaf_model.specs.Work.{zeroKey}
 use Rattle.leaf_work.specs.declared.Work.{Work}
 use Rattle.leaf_work.specs.declared.Entry.{Entry}
@@ -18,7 +19,6 @@ use Rattle.leaf_work.specs.Outcome.{Opened, openOf, replyNumber, freshWork}
 use Rattle.leaf_base.proofs.Bases.{first-refused}
 use Rattle.leaf_open.specs.Opening.{openingOf, openBaseVerdict}
 use Rattle.leaf_open.proofs.Openings.{base-then-room, refused-outcome, accepted-outcome, fresh-work-is-open}
-use Rattle.leaf_entries.specs.Lists.{drained}
 
 -- ---- the number
 
@@ -34,13 +34,14 @@ module _ (based : Bool) (page sep : List ℕ) (cut : Bool) (cutoff : List ℕ) (
     pub right-room-is-accepted : not t ≡ false → 0 ≡ openVerdict 4096 (openingOf based page sep cut cutoff) list store
     right-room-is-accepted h = rw (base-then-room 4096 page sep cutoff list store based cut, ← e, z, l, m, ← q, not-false t h)
 
--- ---- what is drained
+-- ---- what is cleared
 
 none-less : (n : ℕ) → n - 0 ≡ n
 none-less n = omega arith
 
-drained-from-the-end : (list : List Entry) → drained (length list) list ≡ list
-drained-from-the-end list =
+cleared-from-the-end : (list : List Entry) → cleared blank list (length list) ≡ list
+unfolding cleared
+cleared-from-the-end list =
     let e : length list - length list ≡ 0 = omega arith in
     rw (e, take-length list) (append-nil list)
 
@@ -50,13 +51,14 @@ module _ (based : Bool) (page sep : List ℕ) (cut : Bool) (cutoff : List ℕ) (
     (e : v ≡ openVerdict 4096 (openingOf based page sep cut cutoff) list store) where
   pub a-refused-opening-changes-nothing : (v ≡ 0 → ⊥)
       → (let o : Opened = openOf 4096 (openingOf based page sep cut cutoff) w list store in
-      (v ≡ replyNumber (o .reply)) × (w ≡ o .work) × (drained entries list ≡ o .list) × (store ≡ o .store))
+      (v ≡ replyNumber (o .reply)) × (w ≡ o .work) × (cleared blank list entries ≡ o .list) × (store ≡ o .store))
   a-refused-opening-changes-nothing h =
-      rw (refused-outcome 4096 (openingOf based page sep cut cutoff) w list store v e h, ← l) (refl, refl, drained-from-the-end list, refl)
+      rw (refused-outcome 4096 (openingOf based page sep cut cutoff) w list store v e h, ← l) (refl, refl, cleared-from-the-end list, refl)
 
   pub an-accepted-opening-clears-all : v ≡ 0 → (r : Work) (store′ : List ℕ) → r ≡ freshWork based (oneOf based sep zeroKey) cut cutoff → store′ ≡ zeros (length store)
       → (let o : Opened = openOf 4096 (openingOf based page sep cut cutoff) w list store in
-      (0 ≡ replyNumber (o .reply)) × (r ≡ o .work) × (drained 0 list ≡ o .list) × (store′ ≡ o .store))
+      (0 ≡ replyNumber (o .reply)) × (r ≡ o .work) × (cleared blank list 0 ≡ o .list) × (store′ ≡ o .store))
+  unfolding cleared
   an-accepted-opening-clears-all z r store′ f g =
       rw (accepted-outcome 4096 (openingOf based page sep cut cutoff) w list store v e z) (
         refl,

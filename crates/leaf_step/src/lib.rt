@@ -30,8 +30,10 @@ ghost use mathlib.Core.Path.{_≡_};
 ghost use mathlib.Core.List.{List};
 ghost use Prim.Native.Nat.{ℕ, _<_};
 ghost use lib.ListN.{length};
+ghost use Rattle.leaf_model.specs.Basics.{cleared};
 ghost use Rattle.leaf_work.specs.declared.Entry as declared;
 ghost use Rattle.leaf_work.specs.Tests.{isSet, keyIf};
+ghost use Rattle.leaf_work.specs.Lent.{blank};
 ghost use Rattle.leaf_work.specs.Pending.{entryPlaces};
 ghost use Rattle.leaf_work.specs.Verdict.{openVerdict, nextBaseVerdict, removeVerdict};
 ghost use Rattle.leaf_work.specs.Outcome.{replyNumber, Opened, openOf, Changed, nextBaseOf, removeCutoffOf, nthPlace, twinOf, partOf};
@@ -40,7 +42,6 @@ ghost use Rattle.leaf_pending.specs.Reply.{twinOut};
 ghost use Rattle.leaf_pending.specs.Steps.{EntryRead};
 ghost use Rattle.leaf_passed.specs.Passed.{PassingOn, beginningOf, closedBeginning, passedOver};
 ghost use Rattle.leaf_passed.specs.Sought.{recordsIn, seekFrom, soughtOver};
-ghost use Rattle.leaf_entries.specs.Lists.{drained};
 ghost use Rattle.leaf_step.specs.Over.{Over, ClosedOver, SoughtOver};
 
 // ---- the pass begins
@@ -101,7 +102,7 @@ pub fn open_step(
     cut: u8,
     cutoff: &[u8; 32],
 ) -> OpenStep
-    ensures { λ r. ⌜ ((list : List declared.Entry) → length list ≡ entries → (let o : Opened = openOf 4096 (openingOf (isSet based) (now (page .entry)) (now (separator .entry)) (isSet cut) (now (cutoff .entry))) work list (now (store .entry)) in (r .refusal ≡ replyNumber (o .reply)) × (r .work ≡ o .work) × (drained (r .from) list ≡ o .list) × (now (store .exit) ≡ o .store))) ⌝ }
+    ensures { λ r. ⌜ ((list : List declared.Entry) → length list ≡ entries → (let o : Opened = openOf 4096 (openingOf (isSet based) (now (page .entry)) (now (separator .entry)) (isSet cut) (now (cutoff .entry))) work list (now (store .entry)) in (r .refusal ≡ replyNumber (o .reply)) × (r .work ≡ o .work) × (cleared blank list (r .from) ≡ o .list) × (now (store .exit) ≡ o .store))) ⌝ }
 {
     let refusal = open_number(
         based != 0,

@@ -23,13 +23,14 @@ use Rattle.leaf_work.specs.TakingUp.{valueOf, newEntries}
 use Rattle.leaf_work.specs.Verdict.{lentVerdict, ingestVerdict}
 use Rattle.leaf_work.specs.Outcome as outcome
 use Rattle.leaf_base.proofs.Bases.{first-refused}
+use Rattle.leaf_builder.proofs.Putting.{put-none, put-put}
 use Rattle.leaf_ingest.specs.declared.Change.{Change}
 use Rattle.leaf_ingest.specs.declared.Change.the-variants.{Put, Delete}
 use Rattle.leaf_ingest.specs.declared.Kept.{Kept}
 use Rattle.leaf_ingest.specs.Reply.{changeOf}
-use Rattle.leaf_ingest.specs.Steps.{Taken, Sizes, stepVerdict, Admits, addedBy, spliced, chunkEntries, insertEntries, entriesWith, reportBy, workWith, Takes}
+use Rattle.leaf_ingest.specs.Steps.{Taken, Sizes, stepVerdict, Admits, addedBy, chunkEntries, insertEntries, entriesWith, reportBy, workWith, Takes}
 use Rattle.leaf_ingest.proofs.Numbers.{what-takes-an-ingest-admits-it, the-number-is-that-of-the-call, added-records, pending-is, pending-bytes-are}
-use Rattle.leaf_ingest.proofs.Splicing.{spliced-none, spliced-one, spliced-twice}
+use Rattle.leaf_ingest.proofs.Splicing.{put-one}
 use Rattle.leaf_ingest.proofs.Ingests.{accepted-things-take-an-ingest, Passed, passed-rows, added-at-most-one, entries-are, report-is, work-is}
 use Rattle.leaf_passed.specs.declared.Passing.{Passing}
 use Rattle.leaf_passed.specs.Passed.{beginningOf, passedOver, lentAt}
@@ -52,16 +53,16 @@ module _ (list : List Entry) (low stop sum used : ℕ) where
       go true h = rw (chunkEntries, chunkCount, h)
       go false h = rw (chunkEntries, chunkCount, h)
 
-  chunk-set : used + (stop - low) ≤ length list → set list (placeOf (chunkCount low stop) used (length list)) (chunkOf low stop sum) ≡ spliced list used (chunkEntries low stop sum)
+  chunk-set : used + (stop - low) ≤ length list → set list (placeOf (chunkCount low stop) used (length list)) (chunkOf low stop sum) ≡ put list used (chunkEntries low stop sum)
   unfolding chunkEntries
   chunk-set r = go (ltb low stop) refl
     where
-      go : (b : Bool) → ltb low stop ≡ b → set list (placeOf (chunkCount low stop) used (length list)) (chunkOf low stop sum) ≡ spliced list used (chunkEntries low stop sum)
+      go : (b : Bool) → ltb low stop ≡ b → set list (placeOf (chunkCount low stop) used (length list)) (chunkOf low stop sum) ≡ put list used (chunkEntries low stop sum)
       go true h =
           let l : low < stop = ltb-true low stop h in
-          rw (chunkEntries, chunkCount, h) (spliced-one list used (chunkOf low stop sum) (omega arith))
+          rw (chunkEntries, chunkCount, h) (put-one list used (chunkOf low stop sum) (omega arith))
       go false h =
-          rw (chunkEntries, chunkCount, h) (set-out list (length list) (chunkOf low stop sum) (omega arith) ∙ sym (spliced-none list used))
+          rw (chunkEntries, chunkCount, h) (set-out list (length list) (chunkOf low stop sum) (omega arith) ∙ sym (put-none list used))
 
 module _ (list : List Entry) (from at : ℕ) (k value : List ℕ) where
   insert-number : (change : Change) → length (insertEntries from k (changeOf change value)) ≡ addedBy change
@@ -70,10 +71,10 @@ module _ (list : List Entry) (from at : ℕ) (k value : List ℕ) where
   insert-number Delete = refl
 
   insert-set : (change : Change) → at + addedBy change ≤ length list
-      → set list (placeOf (addedBy change) at (length list)) (insertAt from (from + length (valueOf (changeOf change value))) k (flagOf change)) ≡ spliced list at (insertEntries from k (changeOf change value))
+      → set list (placeOf (addedBy change) at (length list)) (insertAt from (from + length (valueOf (changeOf change value))) k (flagOf change)) ≡ put list at (insertEntries from k (changeOf change value))
   unfolding insertEntries
-  insert-set (Put flag) r = spliced-one list at (insertAt from (from + length value) k (bit flag)) (omega arith)
-  insert-set Delete r = set-out list (length list) (insertAt from (from + 0) k 0) (omega arith) ∙ sym (spliced-none list at)
+  insert-set (Put flag) r = put-one list at (insertAt from (from + length value) k (bit flag)) (omega arith)
+  insert-set Delete r = set-out list (length list) (insertAt from (from + 0) k 0) (omega arith) ∙ sym (put-none list at)
 
 -- ---- a step on a list whose lent things earn no refusal
 
@@ -147,17 +148,17 @@ module _ (size : ℕ) (w : Work) (list : List Entry) (store page : List ℕ) (k 
           insert-number list (w .filled) (w .used) k value change,
         )
 
-    both-listed : (reply : LeafReport) → listed list (acceptedStep w kept (length list) k change (length (valueOf c)) reply) ≡ spliced list (w .used) (entriesWith w k kept c)
+    both-listed : (reply : LeafReport) → listed list (acceptedStep w kept (length list) k change (length (valueOf c)) reply) ≡ put list (w .used) (entriesWith w k kept c)
     both-listed reply =
         let n = chunk-number list (w .low) (kept .stop) (kept .taken) (w .used) in
         let m : Entry = chunkOf (w .low) (kept .stop) (kept .taken) in
         let mid : List Entry = set list (placeOf (chunkCount (w .low) (kept .stop)) (w .used) (length list)) m in
-        let first : mid ≡ spliced list (w .used) chunk = chunk-set list (w .low) (kept .stop) (kept .taken) (w .used) (omega (arith, room)) in
+        let first : mid ≡ put list (w .used) chunk = chunk-set list (w .low) (kept .stop) (kept .taken) (w .used) (omega (arith, room)) in
         let long : length mid ≡ length list = length-set list (placeOf (chunkCount (w .low) (kept .stop)) (w .used) (length list)) m in
         let step = insert-set mid (w .filled) (w .used + chunkCount (w .low) (kept .stop)) k value change (omega (arith, room, long, one-chunk)) in
-        (rw long at step) ∙ ap (λ (x : List Entry). spliced x (w .used + chunkCount (w .low) (kept .stop)) (insertEntries (w .filled) k c)) first
-        ∙ ap (λ (x : ℕ). spliced (spliced list (w .used) chunk) (w .used + x) (insertEntries (w .filled) k c)) (sym n)
-        ∙ spliced-twice list (w .used) chunk (insertEntries (w .filled) k c) (omega (arith, room))
+        (rw long at step) ∙ ap (λ (x : List Entry). put x (w .used + chunkCount (w .low) (kept .stop)) (insertEntries (w .filled) k c)) first
+        ∙ ap (λ (x : ℕ). put (put list (w .used) chunk) (w .used + x) (insertEntries (w .filled) k c)) (sym n)
+        ∙ put-put list (w .used) chunk (w .used + length chunk) (insertEntries (w .filled) k c) refl (omega (arith, room))
       where
         one-chunk : chunkCount (w .low) (kept .stop) ≤ kept .stop - w .low
         one-chunk = go (ltb (w .low) (kept .stop)) refl
@@ -169,7 +170,7 @@ module _ (size : ℕ) (w : Work) (list : List Entry) (store page : List ℕ) (k 
     pub an-accepted-step-leaves-its-outcome : (x : List ℕ) → x ≡ valueOf c → (report : outcome.IngestReply) → report ≡ reportBy (w .low) page (kept .stop) (kept .dropped)
         → (reply : LeafReport) → reply ≡ reportOut report → (store′ : List ℕ) → store′ ≡ put store (w .filled) x
         → Steps (outcome.ingestOn size w list store page k c 0) list (acceptedStep w kept (length list) k change (length x) reply) store′
-    unfolding put spliced
+    unfolding put
     an-accepted-step-leaves-its-outcome x f report u reply r store′ s =
         rw (done, f) (record {
           reply-is = r ∙ ap reportOut (u ∙ report-is w page k kept g size list store c);
@@ -177,7 +178,7 @@ module _ (size : ℕ) (w : Work) (list : List Entry) (store page : List ℕ) (k 
               ap (λ (n : ℕ). workWith w k kept n (addedBy change) (length (valueOf c))) entries-number
               ∙ ap (λ (n : ℕ). workWith w k kept (w .used + length (entriesWith w k kept c)) n (length (valueOf c))) (added-records change value k)
               ∙ work-is w page k kept g size list store c;
-          list-is = both-listed reply ∙ ap (λ (es : List Entry). spliced list (w .used) es) (entries-are w page k kept g c);
+          list-is = both-listed reply ∙ ap (λ (es : List Entry). put list (w .used) es) (entries-are w page k kept g c);
           store-is = s ∙ ap (put store (w .filled)) f;
         })
 

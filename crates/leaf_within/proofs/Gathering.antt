@@ -16,10 +16,10 @@ use Rattle.leaf_work.specs.Lent.{blank, cutoffOf, regarded}
 use Rattle.leaf_work.specs.Flat.{listOf, rowOf}
 use Rattle.leaf_work.specs.Pending.{pendingOf}
 use Rattle.leaf_work.specs.Verdict.{lentVerdict, digestVerdict}
-use Rattle.leaf_work.specs.Digest.{DigestReply, DigestRefused, Finished, Merge, Digested, insertsOf, digestReplyBy, digestDone, digestOn, digestOf}
+use Rattle.leaf_work.specs.Digest.{DigestReply, DigestRefused, Finished, Merge, Digested, overwrite, insertsOf, digestReplyBy, digestDone, digestOn, digestOf}
 use Rattle.leaf_work.proofs.Readiness as readiness
 use Rattle.leaf_passed.specs.declared.Unused.{Unused}
-use Rattle.leaf_entries.specs.Lists.{laid, gathered}
+use Rattle.leaf_entries.specs.Lists.{gathered}
 use Rattle.leaf_give.specs.Giving.{planned}
 use Rattle.leaf_digest.specs.declared.Digested as core
 use Rattle.leaf_digest.specs.Reply.{replyOf}
@@ -88,7 +88,7 @@ module _ (list : List Entry) (used : ℕ) (b : drop used list ≡ replicate (len
       ap (λ (k : ℕ). drop k list) (sym e) ∙ sym (drop-drop (g - used) used list) ∙ ap (drop (g - used)) b ∙ drop-same blank (g - used) (length (drop used list))
       ∙ ap (λ (k : ℕ). replicate k blank) c
 
-  pub the-written-and-the-others : laid written list ≡ insertsOf 0 left ++ replicate (length list - length left) blank
+  pub the-written-and-the-others : overwrite written list ≡ insertsOf 0 left ++ replicate (length list - length left) blank
   the-written-and-the-others =
       let c : g - length front + (length list - g) ≡ length list - length left = omega (arith, inserts-length 0 left, l, n) in
       ap (λ (k : ℕ). written ++ drop k list) written-length ∙ ap (λ (t : List Entry). written ++ t) others ∙ append-assoc front (replicate (g - length front) blank) (replicate (length list - g) blank)
@@ -113,10 +113,10 @@ module _ (list : List Entry) (used : ℕ) (b : drop used list ≡ replicate (len
         take-append-le g keys′ many (omega (arith, ap length ks, length-map (front ++ replicate (m - length left) blank) (λ (x : Entry). x .key), made-length, h)) ∙ ap (take g) ks
         ∙ take-of-map (λ (x : Entry). x .key) g (front ++ replicate (m - length left) blank) ∙ ap keysOf first-made
 
-    pub the-list-is-gathered : laid (gathered (take g (rows′ ++ more)) (take g (keys′ ++ many))) list ≡ insertsOf 0 left ++ replicate (length list - length left) blank
+    pub the-list-is-gathered : overwrite (gathered (take g (rows′ ++ more)) (take g (keys′ ++ many))) list ≡ insertsOf 0 left ++ replicate (length list - length left) blank
     the-list-is-gathered =
-        ap (λ (t : List (List ℕ)). laid (gathered t (take g (keys′ ++ many))) list) rows-first ∙ ap (λ (t : List (List ℕ)). laid (gathered (map rowOf written) t) list) keys-first
-        ∙ ap (λ (t : List Entry). laid t list) (a-digests-list-is-gathered-again left (g - length front)) ∙ the-written-and-the-others
+        ap (λ (t : List (List ℕ)). overwrite (gathered t (take g (keys′ ++ many))) list) rows-first ∙ ap (λ (t : List (List ℕ)). overwrite (gathered (map rowOf written) t) list) keys-first
+        ∙ ap (λ (t : List Entry). overwrite t list) (a-digests-list-is-gathered-again left (g - length front)) ∙ the-written-and-the-others
 
 -- ---- accepted
 
@@ -175,7 +175,7 @@ module _ (w : Work) (rows keys : List (List ℕ)) (store page area tickets : Lis
   list-long : m ≤ length list
   list-long = omega (arith, needed, a-list-has-the-room w rows keys store page area tickets list u s none)
 
-  gathered-list : laid (gathered (take g (rows′ ++ drop m rows)) (take g (keys′ ++ drop m keys))) list ≡ o .list
+  gathered-list : overwrite (gathered (take g (rows′ ++ drop m rows)) (take g (keys′ ++ drop m keys))) list ≡ o .list
   gathered-list =
       the-list-is-gathered list (w .used) (readiness.blanks 4096 w list store page (lent-earns-nothing 4096 w list store page area tickets none)) left g
       (omega (arith, given)) (omega (arith, given)) (omega (arith, given-few, list-long)) m given-few rows′ keys′ (drop m rows) (drop m keys) rows-are keys-are
@@ -191,7 +191,7 @@ module _ (w : Work) (rows keys : List (List ℕ)) (store page area tickets : Lis
   the-lists-digest-is-made = record {
     reply-is = ap (λ (x : DigestStep). x .reply) is ∙ ap gaveOut replied;
     work-is = ap (λ (x : DigestStep). x .work) is ∙ leaves .work-is ∙ ap (λ (x : Digested). x .work) done;
-    list-is = subst (λ (i : ℕ). laid (gathered (take i (rows′ ++ drop m rows)) (take i (keys′ ++ drop m keys))) list ≡ o .list) (sym counted) gathered-list;
+    list-is = subst (λ (i : ℕ). overwrite (gathered (take i (rows′ ++ drop m rows)) (take i (keys′ ++ drop m keys))) list ≡ o .list) (sym counted) gathered-list;
     store-is = leaves .store-is ∙ ap (λ (x : Digested). x .store) done;
     area-is = leaves .area-is ∙ ap (λ (x : Digested). x .area) done;
     tickets-are = leaves .tickets-are ∙ ap (λ (x : Digested). x .tickets) done;

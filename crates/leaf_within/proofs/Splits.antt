@@ -15,7 +15,7 @@ use Rattle.leaf_work.specs.Tests.{bit}
 use Rattle.leaf_work.specs.Lent.{blank, insertAt}
 use Rattle.leaf_work.specs.Flat.{entryOf, entriesOf, listOf, rowOf}
 use Rattle.leaf_work.specs.Digest.{insertsOf}
-use Rattle.leaf_entries.specs.Lists.{laid, narrowed, gathered}
+use Rattle.leaf_entries.specs.Lists.{narrowed, gathered}
 use Rattle.leaf_within.specs.Within.{splitCount, SplitFrom}
 
 -- ---- rows and keys of a list stand for it

@@ -11,10 +11,10 @@ use Rattle.leaf_work.specs.Lent.{mostEntries, regarded}
 use Rattle.leaf_work.specs.Flat.{rowOf}
 use Rattle.leaf_work.specs.Pending.{pendingOf}
 use Rattle.leaf_work.specs.Verdict.{lentVerdict, digestVerdict}
-use Rattle.leaf_work.specs.Digest.{DigestReply, DigestRefused, Finished, Merge, Digested}
+use Rattle.leaf_work.specs.Digest.{DigestReply, DigestRefused, Finished, Merge, Digested, overwrite}
 use Rattle.leaf_passed.specs.declared.Unused.{Unused}
 use Rattle.leaf_passed.specs.Behind.{lesserOf, unusedFrom, unusedOver}
-use Rattle.leaf_entries.specs.Lists.{laid, gathered}
+use Rattle.leaf_entries.specs.Lists.{gathered}
 use Rattle.leaf_within.specs.declared.DigestStep.{DigestStep}
 use Rattle.leaf_within.specs.Reply.{gaveOut}
 
@@ -42,8 +42,8 @@ roomNeeded w entries = lesserOf (w .used + keptRoom w) (atMost entries)
 pub record SplitFrom (w : Work) (list : List Entry) (rows keys : List (List ℕ)) (unused : Unused) : Type 0 where
   pub rows₀ : List (List ℕ)
   pub keys₀ : List (List ℕ)
-  pub rows-are : rows ≡ laid (map rowOf (take (splitCount w (length list)) list)) rows₀
-  pub keys-are : keys ≡ laid (map (λ e. e .key) (take (splitCount w (length list)) list)) keys₀
+  pub rows-are : rows ≡ overwrite (map rowOf (take (splitCount w (length list)) list)) rows₀
+  pub keys-are : keys ≡ overwrite (map (λ e. e .key) (take (splitCount w (length list)) list)) keys₀
   pub looked : unused ≡ unusedOver (unusedFrom (splitCount w (length list))) list
 
 -- there is such a list, with so many entries
@@ -77,7 +77,7 @@ stepOf reply w count = record { reply = gaveOut reply; work = w; count = givenBa
 pub record Gathers (w : Work) (o : Digested) (list : List Entry) (r : DigestStep) (rows′ keys′ : List (List ℕ)) (store′ area′ tickets′ : List ℕ) : Type 0 where
   pub reply-is : r .reply ≡ gaveOut (o .reply)
   pub work-is : r .work ≡ o .work
-  pub list-is : laid (gathered (take (r .count) rows′) (take (r .count) keys′)) list ≡ o .list
+  pub list-is : overwrite (gathered (take (r .count) rows′) (take (r .count) keys′)) list ≡ o .list
   pub store-is : store′ ≡ o .store
   pub area-is : area′ ≡ o .area
   pub tickets-are : tickets′ ≡ o .tickets

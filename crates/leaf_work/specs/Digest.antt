@@ -50,7 +50,7 @@ abbrev pub ticketsOf : List Leaf → List ℕ
 ticketsOf ls = packedAll (map ticketOf ls)
 
 -- "Later bytes of both buffers keep what they held."
-abbrev pub overwrite : List ℕ → List ℕ → List ℕ
+abbrev pub overwrite : {A : Type 0} → List A → List A → List A
 overwrite new old = new ++ drop (length new) old
 
 -- kept records as inserts, their values from `at` on

@@ -49,13 +49,13 @@ use denote.Triple.Table.{entered, cited}
 use denote.Triple.Walked.{says, Stays, stay-none, stay-slice, walkOf, goes-none, goes-slice, Walks, ends-at, walked, walk-meets}
 use denote.Exit.{yes}
 use denote.Signature.{plain}
+use Rattle.leaf_model.specs.Basics.{cleared}
 use Rattle.leaf_work.specs.declared.Entry.{Entry}
 use Rattle.leaf_work.specs.Lent.{blank}
 use Rattle.leaf_work.proofs.Entry as T
 use Rattle.leaf_work.proofs.Entry.Laws as T′
-use Rattle.leaf_entries.specs.Lists.{drained}
 use Rattle.leaf_entries.proofs.Locals.{tyAt}
-use Rattle.leaf_entries.proofs.Laying.{cleared, clearing-nothing, clearing-keeps-the-length, clearing-one-more, clearing-all}
+use Rattle.leaf_entries.proofs.Laying.{clearing, clearing-nothing, clearing-keeps-the-length, clearing-one-more, clearing-all}
 use Rattle.leaf_entries.proofs.blank_entry as blank-entry
 use Rattle.leaf_entries.proofs.blank_entry.Symbol as blank-entry-def
 use Rattle.leaf_entries.proofs.blank_entry.Symbol.{name as #leaf-entries·blank-entry}
@@ -109,7 +109,7 @@ module _ {M : Type 1} (𝓤 : URA M) (H : Heap 𝓤) (A : Atoms 𝓤) (W : Given
   abbrev Post : Val → SProp 𝓤
   Post = walkOf 𝓤 H A drain.ended stayed (drain.clauses 𝓤 H A at-mem run) .post (((κ, tt), (q, tt), tt, a, vals), tt)
 
-  exits : (zs : List Entry) → zs ≡ drained m ys → length zs ≡ length ys → ent 𝓤 (⋆ 𝓤 H A (‵ (fobs γ (codedHoleys E .code (heres E zs))) ∷ ‵ (fbor κ (Held E (length zs) b o γ)) ∷ ‵ (flft κ q) ∷ [])) (Post vunit)
+  exits : (zs : List Entry) → zs ≡ cleared blank ys m → length zs ≡ length ys → ent 𝓤 (⋆ 𝓤 H A (‵ (fobs γ (codedHoleys E .code (heres E zs))) ∷ ‵ (fbor κ (Held E (length zs) b o γ)) ∷ ‵ (flft κ q) ∷ [])) (Post vunit)
   exits zs f n₁ =
       qed W (‵ (fobs γ (codedHoleys E .code (heres E zs))) ∷ ‵ (fbor κ (Held E (length zs) b o γ)) ∷ ‵ (flft κ q) ∷ []) ∵
       suffices ! _ (ends-at 𝓤 H A drain.ended stayed (drain.clauses 𝓤 H A at-mem run) W (((κ, tt), (q, tt), tt, a, vals), tt) vunit tt (zs, (tt, tt)) (n₁, (tt, tt))) $ says ! f $
@@ -139,7 +139,7 @@ module _ {M : Type 1} (𝓤 : URA M) (H : Heap 𝓤) (A : Atoms 𝓤) (W : Given
   Nearer-wf = InvImage·wf (λ (t : Upto). n - t .0) (Nat·lt-wfRel .wf)
 
   abbrev ysAt : ℕ → List Entry
-  ysAt t = cleared blank ys m t
+  ysAt t = clearing blank ys m t
 
   module _ (𝓣 : Tables 𝓤 H) (known : Triple 𝓤 (𝓣 .C #leaf-entries·blank-entry) (Blank 𝓤 H A at-mem run)) where
     module _ (l₀ l₁ l₂ l₃ l₄ l₅ l₆ l₇ : ℕ) where

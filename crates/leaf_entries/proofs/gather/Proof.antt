@@ -54,9 +54,10 @@ use denote.Exit.{yes}
 use denote.Signature.{Slot, plain}
 use Rattle.leaf_work.specs.declared.Entry.{Entry}
 use Rattle.leaf_work.specs.Lent.{blank}
+use Rattle.leaf_work.specs.Digest.{overwrite}
 use Rattle.leaf_work.proofs.Entry as T
 use Rattle.leaf_work.proofs.Entry.Laws as T′
-use Rattle.leaf_entries.specs.Lists.{laid, narrowed, gathered}
+use Rattle.leaf_entries.specs.Lists.{narrowed, gathered}
 use Rattle.leaf_entries.proofs.Locals.{tyAt}
 use Rattle.leaf_entries.proofs.Laying.{laying-entries-keeps-the-length, laying-one-entry-more}
 use Rattle.leaf_entries.proofs.entry_of as entry-of
@@ -157,7 +158,7 @@ module _ {M : Type 1} (𝓤 : URA M) (H : Heap 𝓤) (A : Atoms 𝓤) (W : Given
   abbrev List₂ : Fml
   List₂ = ShrSlice (named 2) κ₂ R₂ .own x₂ (s₂ ∷ [])
 
-  exits : (zs : List Entry) → zs ≡ laid (gathered (take n xs) (take n ks)) es → length zs ≡ length es
+  exits : (zs : List Entry) → zs ≡ overwrite (gathered (take n xs) (take n ks)) es → length zs ≡ length es
       → ent 𝓤 (⋆ 𝓤 H A (‵ (flft κ₀ q₀) ∷ ‵ (flft κ₁ q₁) ∷ ‵ (flft κ₂ q₂) ∷ ‵ (fobs γ₀ (codedHoleys E .code (heres E zs))) ∷ ‵ (fbor κ₀ (Held E (length zs) b₀ o₀ γ₀)) ∷ ‵ List₁ ∷ ‵ List₂ ∷ [])) (Post vunit)
   exits zs e n₀ =
       qed W (‵ (flft κ₀ q₀) ∷ ‵ (flft κ₁ q₁) ∷ ‵ (flft κ₂ q₂) ∷ ‵ (fobs γ₀ (codedHoleys E .code (heres E zs))) ∷ ‵ (fbor κ₀ (Held E (length zs) b₀ o₀ γ₀)) ∷ ‵ List₁ ∷ ‵ List₂ ∷ []) ∵
@@ -190,7 +191,7 @@ module _ {M : Type 1} (𝓤 : URA M) (H : Heap 𝓤) (A : Atoms 𝓤) (W : Given
 
   -- the list where i entries are written
   abbrev esAt : ℕ → List Entry
-  esAt i = laid (gathered (take i xs) (take i ks)) es
+  esAt i = overwrite (gathered (take i xs) (take i ks)) es
 
   es-length : (i : Upto) → length (esAt (i .0)) ≡ length es
   es-length i = laying-entries-keeps-the-length xs ks es (i .0) (le-trans (i .1) m₁) (le-trans (i .1) m₂) (le-trans (i .1) m₀)

@@ -55,9 +55,9 @@ use denote.Signature.{Slot, plain}
 use Rattle.leaf_work.specs.declared.Entry.{Entry}
 use Rattle.leaf_work.specs.Lent.{blank}
 use Rattle.leaf_work.specs.Flat.{rowOf}
+use Rattle.leaf_work.specs.Digest.{overwrite}
 use Rattle.leaf_work.proofs.Entry as T
 use Rattle.leaf_work.proofs.Entry.Laws as T′
-use Rattle.leaf_entries.specs.Lists.{laid}
 use Rattle.leaf_entries.proofs.Locals.{tyAt}
 use Rattle.leaf_entries.proofs.Laying.{laying-parts-keeps-the-length, laying-one-part-more}
 use Rattle.leaf_entries.proofs.row_of as row-of
@@ -156,7 +156,7 @@ module _ {M : Type 1} (𝓤 : URA M) (H : Heap 𝓤) (A : Atoms 𝓤) (W : Given
   abbrev List₀ : Fml
   List₀ = ShrSlice (named 0) κ₀ E .own x₀ (s₀ ∷ [])
 
-  exits : (zs us : List (List ℕ)) → (zs ≡ laid (map rowOf (take n es)) xs) × (us ≡ laid (map keyOf (take n es)) ks) → length zs ≡ length xs → length us ≡ length ks
+  exits : (zs us : List (List ℕ)) → (zs ≡ overwrite (map rowOf (take n es)) xs) × (us ≡ overwrite (map keyOf (take n es)) ks) → length zs ≡ length xs → length us ≡ length ks
       → ent 𝓤 (⋆ 𝓤 H A (‵ (flft κ₀ q₀) ∷ ‵ (flft κ₁ q₁) ∷ ‵ (flft κ₂ q₂) ∷ ‵ List₀ ∷ ‵ (fobs γ₁ (codedHoleys R₁ .code (heres R₁ zs))) ∷ ‵ (fbor κ₁ (Held R₁ (length zs) b₁ o₁ γ₁)) ∷ ‵ (fobs γ₂ (codedHoleys R₂ .code (heres R₂ us))) ∷ ‵ (fbor κ₂ (Held R₂ (length us) b₂ o₂ γ₂)) ∷ [])) (Post vunit)
   exits zs us e n₁ n₂ =
       qed W (‵ (flft κ₀ q₀) ∷ ‵ (flft κ₁ q₁) ∷ ‵ (flft κ₂ q₂) ∷ ‵ List₀ ∷ ‵ (fobs γ₁ (codedHoleys R₁ .code (heres R₁ zs))) ∷ ‵ (fbor κ₁ (Held R₁ (length zs) b₁ o₁ γ₁)) ∷ ‵ (fobs γ₂ (codedHoleys R₂ .code (heres R₂ us))) ∷ ‵ (fbor κ₂ (Held R₂ (length us) b₂ o₂ γ₂)) ∷ []) ∵
@@ -190,10 +190,10 @@ module _ {M : Type 1} (𝓤 : URA M) (H : Heap 𝓤) (A : Atoms 𝓤) (W : Given
 
   -- the lists where i entries are copied
   abbrev rowsAt : ℕ → List (List ℕ)
-  rowsAt i = laid (map rowOf (take i es)) xs
+  rowsAt i = overwrite (map rowOf (take i es)) xs
 
   abbrev keysAt : ℕ → List (List ℕ)
-  keysAt i = laid (map keyOf (take i es)) ks
+  keysAt i = overwrite (map keyOf (take i es)) ks
 
   rows-length : (i : Upto) → length (rowsAt (i .0)) ≡ length xs
   rows-length i = laying-parts-keeps-the-length rowOf es xs (i .0) (le-trans (i .1) m₀) (le-trans (i .1) m₁)

@@ -47,10 +47,10 @@ use denote.Signature.{Slot, plain}
 use Rattle.leaf_work.specs.declared.Work.{Work}
 use Rattle.leaf_work.specs.declared.Entry.{Entry}
 use Rattle.leaf_work.specs.Flat.{rowOf}
-use Rattle.leaf_work.specs.Digest.{Digested, digestOf}
+use Rattle.leaf_work.specs.Digest.{Digested, overwrite, digestOf}
 use Rattle.leaf_passed.specs.declared.Unused.{Unused}
 use Rattle.leaf_passed.specs.Behind.{unusedFrom, unusedOver}
-use Rattle.leaf_entries.specs.Lists.{laid, gathered}
+use Rattle.leaf_entries.specs.Lists.{gathered}
 use Rattle.leaf_within.specs.declared.DigestStep.{DigestStep}
 use Rattle.leaf_within.specs.Within.{splitCount, roomNeeded, SplitFrom, SplitOver, Gathers}
 use Rattle.leaf_split.specs.Digests.{DigestSteps}
@@ -249,7 +249,7 @@ module _ {M : Type 1} (𝓤 : URA M) (H : Heap 𝓤) (A : Atoms 𝓤) (W : Given
   Lasts₄ = Unit {0} × (List (List ℕ) × (List (List ℕ) × (Unit {0} × Unit {0})))
 
   abbrev Splits : ℕ → List (List ℕ) → List (List ℕ) → Type 0
-  Splits m rs ks = (rs ≡ laid (map rowOf (take m es)) rows) × (ks ≡ laid (map (λ (e : Entry). e .key) (take m es)) keys)
+  Splits m rs ks = (rs ≡ overwrite (map rowOf (take m es)) rows) × (ks ≡ overwrite (map (λ (e : Entry). e .key) (take m es)) keys)
 
   -- `digest_within`
   abbrev Lfts₅ : Type 0
@@ -319,7 +319,7 @@ module _ {M : Type 1} (𝓤 : URA M) (H : Heap 𝓤) (A : Atoms 𝓤) (W : Given
   Lasts₆ = List Entry × (Unit {0} × (Unit {0} × (Unit {0} × Unit {0})))
 
   abbrev gathers : ℕ → List (List ℕ) → List (List ℕ) → List Entry
-  gathers m rs ks = laid (gathered (take m rs) (take m ks)) es
+  gathers m rs ks = overwrite (gathered (take m rs) (take m ks)) es
 
   -- ---- what is answered and left
 
@@ -327,8 +327,8 @@ module _ {M : Type 1} (𝓤 : URA M) (H : Heap 𝓤) (A : Atoms 𝓤) (W : Given
   split-from m b u rs ks (is, _, _) e f (g, h) = record {
     rows₀ = rows;
     keys₀ = keys;
-    rows-are = g ∙ ap (λ (z : ℕ). laid (map rowOf (take z es)) rows) is;
-    keys-are = h ∙ ap (λ (z : ℕ). laid (map (λ (e : Entry). e .key) (take z es)) keys) is;
+    rows-are = g ∙ ap (λ (z : ℕ). overwrite (map rowOf (take z es)) rows) is;
+    keys-are = h ∙ ap (λ (z : ℕ). overwrite (map (λ (e : Entry). e .key) (take z es)) keys) is;
     looked = f ∙ ap (λ (y : Unused). unusedOver y es) (e ∙ ap unusedFrom is);
   }
 

@@ -44,12 +44,13 @@ use denote.Triple.Table.{entered, cited}
 use denote.Triple.Walked.{says, Stays, stay-ref, stay-none, stay-none-ref, stay-none-slice, gave-slice, walkOf, goes-ref, goes-none, goes-none-ref, goes-none-slice, goes-gave-slice, Walks, ends-at, walked, walk-meets}
 use denote.Exit.{yes}
 use denote.Signature.{plain}
+use Rattle.leaf_model.specs.Basics.{cleared}
 use Rattle.leaf_work.specs.declared.Work.{Work}
 use Rattle.leaf_work.specs.declared.Entry.{Entry}
 use Rattle.leaf_work.specs.Tests.{isSet}
+use Rattle.leaf_work.specs.Lent.{blank}
 use Rattle.leaf_work.specs.Outcome.{Opened, openOf, replyNumber}
 use Rattle.leaf_open.specs.Opening.{openingOf}
-use Rattle.leaf_entries.specs.Lists.{drained}
 use Rattle.leaf_step.specs.declared.OpenStep.{OpenStep}
 use Rattle.leaf_entries.proofs.Locals.{tyAt}
 use Rattle.leaf_entries.proofs.Freed.{all-freed}
@@ -170,7 +171,7 @@ module _ {M : Type 1} (𝓤 : URA M) (H : Heap 𝓤) (A : Atoms 𝓤) (W : Given
 
   -- what it says of its result and of the last store, of any list as long
   abbrev Said : OpenStep → List ℕ → Type 0
-  Said r us = (l : List Entry) → length l ≡ n → (r .refusal ≡ replyNumber (outcome l .reply)) × (r .work ≡ outcome l .work) × (drained (r .from) l ≡ outcome l .list) × (us ≡ outcome l .store)
+  Said r us = (l : List Entry) → length l ≡ n → (r .refusal ≡ replyNumber (outcome l .reply)) × (r .work ≡ outcome l .work) × (cleared blank l (r .from) ≡ outcome l .list) × (us ≡ outcome l .store)
 
   -- `drain`: the list's own borrow
   abbrev args₂ : ℕ → RefT (List Entry) × (ℕ × Unit {0})
@@ -189,7 +190,7 @@ module _ {M : Type 1} (𝓤 : URA M) (H : Heap 𝓤) (A : Atoms 𝓤) (W : Given
   abbrev Ends : OpenStep → List Entry → List ℕ → Type 0
   Ends r zs us = (r .refusal ≡ replyNumber (outcome es .reply)) × (r .work ≡ outcome es .work) × (zs ≡ outcome es .list) × (us ≡ outcome es .store)
 
-  ends : (r : OpenStep) (us : List ℕ) (zs : List Entry) → Said r us → zs ≡ drained (r .from) es → Ends r zs us
+  ends : (r : OpenStep) (us : List ℕ) (zs : List Entry) → Said r us → zs ≡ cleared blank es (r .from) → Ends r zs us
   ends r us zs said f = let (replied, work, list, store) = said es refl in (replied, work, f ∙ list, store)
 
   exits : (r : OpenStep) (zs : List Entry) (us : List ℕ) → Ends r zs us → length zs ≡ n → length us ≡ length (s .now) → r .refusal < 2 ^ 8
@@ -235,8 +236,8 @@ module _ {M : Type 1} (𝓤 : URA M) (H : Heap 𝓤) (A : Atoms 𝓤) (W : Given
         use2 W (raw (Drain 𝓤 H A at-mem run .pre (to₂ (r .from)))) (asked₂ (r .from)) $
         calls-at ! fm (Drain 𝓤 H A at-mem run) known₂ (to₂ (r .from)) (and-then ! (load ! (from ! (stop !)) (look ! 11 refl)) (and-then ! (load ! (from ! (fld ! refl (stop !))) (look-in ! 25 (sub ! 1 refl (whole !)))) (no-more !))) (λ w₂.
         use1 W (later (some (λ (u : Unit {0}). ((‵ (flft κ₁ q₁) ⊛ ‵ ftrue) ⊛ ‵ (Nothing .own u (w₂ ∷ []))) ⊛ raw (ensured 𝓤 H A drain.ended (drain.clauses 𝓤 H A at-mem run) (κ₁, tt) (args₂ (r .from)) tt u)))) (id⊢ 𝓤 _) $ await ! tt $ pick ! (λ u₂.
-        split ! $ move ! (1 ∷ []) $ use1 W (some (λ (ws : List Entry × (Unit {0} × Unit {0})). ‵ (lasts drain.ended (κ₁, tt) (args₂ (r .from)) ws) ⊛ raw (fact 𝓤 (ws .0 ≡ drained (r .from) es)))) (id⊢ 𝓤 _) $ pick ! (λ zs.
-        split ! $ move ! (1 ∷ []) $ heard ! (zs .0 ≡ drained (r .from) es) (λ f₂. fsplit ! $ move ! (1 ∷ []) $ drop ! $ fsplit ! $ move ! (1 ∷ []) $ feqL ! (λ n₁.
+        split ! $ move ! (1 ∷ []) $ use1 W (some (λ (ws : List Entry × (Unit {0} × Unit {0})). ‵ (lasts drain.ended (κ₁, tt) (args₂ (r .from)) ws) ⊛ raw (fact 𝓤 (ws .0 ≡ cleared blank es (r .from))))) (id⊢ 𝓤 _) $ pick ! (λ zs.
+        split ! $ move ! (1 ∷ []) $ heard ! (zs .0 ≡ cleared blank es (r .from)) (λ f₂. fsplit ! $ move ! (1 ∷ []) $ drop ! $ fsplit ! $ move ! (1 ∷ []) $ feqL ! (λ n₁.
         move ! (1 ∷ []) $ split ! $ split ! $ move ! (1 ∷ []) $ drop ! $ move ! (1 ∷ []) $ feqL ! (λ is₂.
         land ! (from ! (stop !)) (init ! 16 refl (subst (λ (u : Val). Holds (hasTy tyUnit u) × WT u) (sym (ap only is₂)) (tt, tt))) $
         -- *work = step.work; step.refusal
