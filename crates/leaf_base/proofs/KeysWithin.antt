@@ -11,7 +11,7 @@ use borrow.Author.Tests.{lt-ltb, le-ltb, ltb-true, ltb-false}
 use Rattle.bit_ops.specs.Key.{num, ltKey}
 use Rattle.leaf_node.specs.Record.{Record}
 use Rattle.leaf_node.specs.Page.{count, keyAt, recordAt, run, recordsBetween, records}
-use Rattle.leaf_node.specs.Steps.{Rising}
+use Rattle.leaf_node.specs.Steps.{Sorted}
 use Rattle.leaf_node.proofs.Searches.{rise-on}
 use Rattle.leaf_model.specs.Work.{belowCutoff}
 use Rattle.leaf_work.specs.Tests.{every}
@@ -44,7 +44,7 @@ lower-keys-are-below (some c) a b l h = lt-ltb (num a) (num c) (omega (arith, lt
 
 -- ---- the records of a page
 
-module _ (p : List ℕ) (n : ℕ) (rising : Rising p n) (s : List ℕ) (c : Option (List ℕ)) where
+module _ (p : List ℕ) (n : ℕ) (rising : Sorted p n) (s : List ℕ) (c : Option (List ℕ)) where
   abbrev isWithin : Record → Bool
   isWithin r = not (ltKey (r .key) s) && belowCutoff c (r .key)
 

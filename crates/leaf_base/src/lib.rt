@@ -8,7 +8,7 @@ ghost use mathlib.Core.Path.{_≡_};
 ghost use lib.ListN.{length};
 ghost use Rattle.leaf_node.specs.Limits.{PageSize};
 ghost use Rattle.leaf_node.specs.Page.{records};
-ghost use Rattle.leaf_node.specs.Steps.{Rising};
+ghost use Rattle.leaf_node.specs.Steps.{Sorted};
 ghost use Rattle.leaf_model.specs.Work.{belowCutoff};
 ghost use Rattle.leaf_work.specs.Tests.{keyIf};
 ghost use Rattle.leaf_work.specs.Lent.{roomRight};
@@ -35,7 +35,7 @@ pub fn is_below(key: &[u8], cut: bool, cutoff: &[u8; 32]) -> bool
 
 // Whether a page's n keys are at or above the separator and below the cutoff: since keys rise, the first and the last decide.
 fn keys_within(page: &[u8], n: usize, separator: &[u8; 32], cut: bool, cutoff: &[u8; 32]) -> bool
-    requires { ⌜ Rising (now page) n ⌝ }
+    requires { ⌜ Sorted (now page) n ⌝ }
     ensures { λ r. ⌜ r ≡ keysWithin (now (separator .entry)) (keyIf cut (now (cutoff .entry))) (records (now (page .entry))) ⌝ }
 {
     if n == 0 {

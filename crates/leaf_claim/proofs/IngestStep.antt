@@ -9,9 +9,9 @@ use lib.ListN.{length}
 use borrow.Author.Tests.{eqb-true, leb-true, eq-eqb}
 use Rattle.leaf_node.specs.Record.{total}
 use Rattle.leaf_node.specs.Page.{start, lengthAt}
+use Rattle.leaf_node.specs.Fits.{Rising}
 use Rattle.leaf_model.specs.Work.{Change, Ingest, belowCutoff, changeFits, allowed}
 use Rattle.leaf_model.specs.Tally.{changed}
-use Rattle.leaf_model.specs.Claim.{Rising}
 use Rattle.leaf_model.proofs.Keys.{rising-right}
 use Rattle.leaf_model.proofs.Invariant.{ingest-keeps-the-invariant}
 use Rattle.leaf_work.specs.declared.Work.{Work}

@@ -13,9 +13,8 @@ use borrow.Author.Tests.{ltb-true, ltb-false}
 use Rattle.bit_ops.specs.Steps.{zeros}
 use Rattle.leaf_node.specs.Record.{Record, total}
 use Rattle.leaf_node.specs.Page.{count, run, recordsBetween, valuesSize}
-use Rattle.leaf_node.specs.Fits.{All, nil, cons}
+use Rattle.leaf_node.specs.Fits.{All, nil, cons, Rising}
 use Rattle.leaf_model.specs.Work.{Open, Change, inserted, belowCutoff, recordsBelow, recordsAbove, ingested}
-use Rattle.leaf_model.specs.Claim.{Rising}
 use Rattle.leaf_model.proofs.Lists.{all-append, all-map}
 use Rattle.leaf_model.proofs.Keys.{test-of-lt}
 use Rattle.leaf_model.proofs.Ingesting.{split}

@@ -5,9 +5,9 @@ use mathlib.Core.List.{List, [], _++_}
 use Prim.Native.Nat.{ℕ}
 use lib.ListN.{length}
 use borrow.Author.Tests.{eqb-true}
-use Rattle.leaf_node.specs.Fits.{All, Keyed}
+use Rattle.leaf_node.specs.Fits.{All, Keyed, Rising}
 use Rattle.leaf_model.specs.Work.{orElse}
-use Rattle.leaf_model.specs.Claim.{Rising, recordsOf}
+use Rattle.leaf_model.specs.Claim.{recordsOf}
 use Rattle.leaf_model.proofs.Lists.{all-right, all-map}
 use Rattle.leaf_model.proofs.Keys.{rising-right}
 use Rattle.leaf_work.specs.declared.Work.{Work}

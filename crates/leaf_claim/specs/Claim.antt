@@ -10,12 +10,12 @@ use Rattle.refusal.specs.Refusal.{accepted, outOfTurn, longValue, keyTooLow, ke
 use Rattle.leaf_node.specs.Limits.{bodyLimit, mergeBelow}
 use Rattle.leaf_node.specs.Record.{Record, body, total}
 use Rattle.leaf_node.specs.Page.{records}
-use Rattle.leaf_node.specs.Fits.{All}
+use Rattle.leaf_node.specs.Fits.{All, Rising}
 use Rattle.leaf_model.specs.Basics.{nonempty}
 use Rattle.leaf_model.specs.Cut.{Cut, cutAsWritten}
 use Rattle.leaf_model.specs.Work.{Leaf, belowCutoff, changeFits, finished, turnAfter, overrideAfter, floorAfter, lastKey, leavesBy}
 use Rattle.leaf_model.specs.Tally.{changed}
-use Rattle.leaf_model.specs.Claim.{Lt, Le, Rising, recordsOf}
+use Rattle.leaf_model.specs.Claim.{Lt, Le, recordsOf}
 use Rattle.leaf_work.specs.Tests.{isSet, keyIf}
 use Rattle.leaf_work.specs.Lent.{turnNumber, isOpen, isWaiting, cutoffOf, overrideOf, separatorOf}
 use Rattle.leaf_work.specs.Sound.{letsIn}

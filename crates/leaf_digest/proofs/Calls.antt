@@ -12,7 +12,7 @@ use borrow.Author.Tests.{eq-eqb, ne-eqb, leb-true}
 use Rattle.leaf_node.specs.Limits.{PageSize, pagesAsked}
 use Rattle.leaf_node.specs.Record.{Record, body, total}
 use Rattle.leaf_node.specs.Fits.{All, nil, cons, Keyed, Fitting}
-use Rattle.leaf_model.specs.Work.{zeroKey, keysRise, plan}
+use Rattle.leaf_model.specs.Work.{zeroKey, isRising, plan}
 use Rattle.leaf_model.proofs.Tests.{and-left, and-right}
 use Rattle.leaf_model.proofs.Lists.{all-left}
 use Rattle.leaf_work.specs.declared.Work.{Work}
@@ -111,7 +111,7 @@ module _ (size : ℕ) (w : Work) (list : List Entry) (store page area tickets : 
         ready = ready-over;
         keyed = subst (All Keyed) same-pending (rw (pending-parts w list store (regarded w page)) (pending-keys-have-32-bytes size q w list store page lent-earns-nothing k));
         fitting = subst (All (Fitting size)) same-pending (rw (pending-parts w list store (regarded w page)) (pending-values-are-fitting size q w list store page lent-earns-nothing));
-        rise = ap keysRise the-pending-records-are-the-same ∙ readiness.c size w list store page lent-earns-nothing .keys-rise;
+        rise = ap isRising the-pending-records-are-the-same ∙ readiness.c size w list store page lent-earns-nothing .keys-rise;
         counted = ap length the-pending-records-are-the-same ∙ the-pending-records-are-counted size w list store page lent-earns-nothing;
         summed = ap total the-pending-records-are-the-same ∙ the-pending-values-are-summed size w list store page lent-earns-nothing;
         area-room = subst (λ (rs : List Record). pagesAsked size (body rs) * size ≤ length area) same-pending (leb-true (asked * size) (length area) (and-left (leb (asked * size) (length area)) (leb (asked * 65) (length tickets)) has-pages));

@@ -14,7 +14,7 @@ use Rattle.leaf_node.specs.Page.{count}
 use Rattle.leaf_node.specs.Fits.{All, Keyed, Fitting}
 use Rattle.leaf_model.specs.Basics.{joined, nonempty}
 use Rattle.leaf_model.specs.Cut.{Cut, nothingCut, withLeaf, targetOf, cut, cutAll}
-use Rattle.leaf_model.specs.Work.{keysRise, closes, finish, plan}
+use Rattle.leaf_model.specs.Work.{isRising, closes, finish, plan}
 use Rattle.leaf_model.proofs.Tests.{and-right, clash}
 use Rattle.leaf_model.proofs.Lists.{all-head, all-left, all-right, all-map}
 use Rattle.leaf_model.proofs.Cutting.{LeafSized, limits-agree, cut-leaves-fit, target-enough, target-fits}
@@ -56,11 +56,11 @@ has-records : (l : List Record) → nonempty l ≡ true → 0 < length l
 has-records [] h = clash h refl
 has-records (r ∷ rs) h = omega arith
 
-rise-right : (l m : List Record) → keysRise (l ++ m) ≡ true → keysRise m ≡ true
+rise-right : (l m : List Record) → isRising (l ++ m) ≡ true → isRising m ≡ true
 rise-right [] m h = h
 rise-right (x ∷ []) [] h = refl
-rise-right (x ∷ []) (r ∷ rs) h = and-right (ltKey (x .key) (r .key)) (keysRise (r ∷ rs)) h
-rise-right (x ∷ y ∷ ys) m h = rise-right (y ∷ ys) m (and-right (ltKey (x .key) (y .key)) (keysRise ((y ∷ ys) ++ m)) h)
+rise-right (x ∷ []) (r ∷ rs) h = and-right (ltKey (x .key) (r .key)) (isRising (r ∷ rs)) h
+rise-right (x ∷ y ∷ ys) m h = rise-right (y ∷ ys) m (and-right (ltKey (x .key) (y .key)) (isRising ((y ∷ ys) ++ m)) h)
 
 module _ (size : ℕ) (w : Work) (rows keys : List (List ℕ)) (store page area tickets : List ℕ) (target : ℕ) where
   -- the leaves so far have been given out, those behind them are still to be cut, and `next` was sought as the first of these
@@ -84,7 +84,7 @@ module _ (size : ℕ) (w : Work) (rows keys : List (List ℕ)) (store page area 
     pub left-keyed : All Keyed left
     left-keyed = all-right (joined ls) left (rw whole (g .keyed))
 
-    pub left-rises : keysRise left ≡ true
+    pub left-rises : isRising left ≡ true
     left-rises = rise-right (joined ls) left (rw whole (g .rise))
 
     left-fitting : All (λ r. cost r ≤ bodyLimit size) left

@@ -24,7 +24,7 @@ use Rattle.leaf_node.proofs.Lengths.{body-is-pointers-and-values}
 use Rattle.leaf_node.proofs.Copying.{put-all}
 use Rattle.leaf_node.proofs.RoundTrips.{a-built-page-is-full-length}
 use Rattle.leaf_model.specs.Basics.{nonempty}
-use Rattle.leaf_model.specs.Work.{zeroKey, lastKey, leafCutoff, keysRise}
+use Rattle.leaf_model.specs.Work.{zeroKey, lastKey, leafCutoff, isRising}
 use Rattle.leaf_work.specs.Tests.{oneOf, keyIf}
 use Rattle.leaf_work.proofs.Operations.{total-append}
 use Rattle.leaf_cut.specs.declared.Gauge.{Gauge}
@@ -186,7 +186,7 @@ module _ (size : ℕ) (rows keys : List (List ℕ)) (store page : List ℕ) (s :
         sym (the-first-key-is-that-of-the-first-record rows keys store page s (h .kept) at (h .behind-in) some) ∙ ap (first rows keys store page s (h .kept) at (h .behind-in) some) e in
         let k : keyAt part (leaf .count - 1) ≡ lastKey l =
         ap (λ (x : List ℕ). keyAt x (leaf .count - 1)) part-is ∙ ap (λ (m : ℕ). keyAt (build size l) (m - 1)) (sym many) ∙ the-last-key-of-a-leaf size l (h .fits .fits) (omega (arith, many, h .some-record)) in
-        let up : keysRise (l ++ (r ∷ rs)) ≡ true = rw (← e, ← both) (h .rise) in
+        let up : isRising (l ++ (r ∷ rs)) ≡ true = rw (← e, ← both) (h .rise) in
         ap₂ (λ (x y : List ℕ). separateLeaves x y zeroKey) k n
         ∙ different-keys-are-separated (lastKey l) (r .key) (a-lower-key-is-another (lastKey l) (r .key) (the-next-key-is-above-a-leaf l r rs has-record up))
 

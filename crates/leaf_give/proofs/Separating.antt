@@ -14,7 +14,7 @@ use Rattle.leaf_node.specs.Record.{Record}
 use Rattle.leaf_node.specs.Build.{build}
 use Rattle.leaf_node.specs.Ticket.{packedWith}
 use Rattle.leaf_model.specs.Basics.{joined, nonempty}
-use Rattle.leaf_model.specs.Work.{leafCutoff, nextSeparator, lastKey, withSeparators, separatorAfter, keysRise}
+use Rattle.leaf_model.specs.Work.{leafCutoff, nextSeparator, lastKey, withSeparators, separatorAfter, isRising}
 use Rattle.leaf_model.proofs.Tests.{and-left, and-right, clash}
 use Rattle.leaf_model.proofs.Lists.{joined-append}
 use Rattle.leaf_work.specs.Tests.{oneOf}
@@ -26,11 +26,11 @@ pub a-lower-key-is-another : (a b : List ℕ) → ltKey a b ≡ true → eqKey a
 unfolding ltKey eqKey
 a-lower-key-is-another a b h = let l = ltb-true (num a) (num b) h in ne-eqb (num a) (num b) (λ (e : num a ≡ num b). omega (arith, l))
 
-pub the-next-key-is-above-a-leaf : (l : List Record) (r : Record) (rs : List Record) → nonempty l ≡ true → keysRise (l ++ (r ∷ rs)) ≡ true → ltKey (lastKey l) (r .key) ≡ true
+pub the-next-key-is-above-a-leaf : (l : List Record) (r : Record) (rs : List Record) → nonempty l ≡ true → isRising (l ++ (r ∷ rs)) ≡ true → ltKey (lastKey l) (r .key) ≡ true
 the-next-key-is-above-a-leaf [] r rs n h = clash n refl
-the-next-key-is-above-a-leaf (x ∷ []) r rs n h = and-left (ltKey (x .key) (r .key)) (keysRise (r ∷ rs)) h
+the-next-key-is-above-a-leaf (x ∷ []) r rs n h = and-left (ltKey (x .key) (r .key)) (isRising (r ∷ rs)) h
 the-next-key-is-above-a-leaf (x ∷ y ∷ ys) r rs n h =
-    the-next-key-is-above-a-leaf (y ∷ ys) r rs refl (and-right (ltKey (x .key) (y .key)) (keysRise ((y ∷ ys) ++ (r ∷ rs))) h)
+    the-next-key-is-above-a-leaf (y ∷ ys) r rs refl (and-right (ltKey (x .key) (y .key)) (isRising ((y ∷ ys) ++ (r ∷ rs))) h)
 
 -- by how many records follow
 module _ (l : List Record) (between : List ℕ) where

@@ -9,7 +9,7 @@ use Rattle.leaf_node.specs.Record.{Record, body, total}
 use Rattle.leaf_node.specs.Page.{count, valuesSize}
 use Rattle.leaf_node.specs.Fits.{All, Keyed, Fitting}
 use Rattle.leaf_model.specs.Cut.{Cut}
-use Rattle.leaf_model.specs.Work.{Leaf, keysRise, plan, separatorAfter, leavesBy}
+use Rattle.leaf_model.specs.Work.{Leaf, isRising, plan, separatorAfter, leavesBy}
 use Rattle.leaf_work.specs.declared.Work.{Work}
 use Rattle.leaf_work.specs.Lent.{cutoffOf, separatorOf}
 use Rattle.leaf_work.specs.Flat.{listOf}
@@ -39,7 +39,7 @@ module _ (size : ℕ) (w : Work) (rows keys : List (List ℕ)) (store page : Lis
     pub ready : Ready w (listOf rows keys) store page
     pub keyed : All Keyed pending
     pub fitting : All (Fitting size) pending
-    pub rise : keysRise pending ≡ true
+    pub rise : isRising pending ≡ true
     pub counted : length pending ≡ w .count + (count page - w .low)
     pub summed : total pending ≡ w .bytes + valuesSize page (w .low) (count page)
     pub area-room : pagesAsked size (body pending) * size ≤ length area

@@ -11,7 +11,7 @@ use Rattle.leaf_node.specs.Ticket.{packedWith}
 use Rattle.leaf_node.specs.Fits.{All, Fits}
 use Rattle.leaf_model.specs.Basics.{joined}
 use Rattle.leaf_model.specs.Cut.{Cut}
-use Rattle.leaf_model.specs.Work.{leafCutoff, nextSeparator, keysRise, separatorAfter, leavesBy}
+use Rattle.leaf_model.specs.Work.{leafCutoff, nextSeparator, isRising, separatorAfter, leavesBy}
 use Rattle.leaf_work.specs.declared.Work.{Work}
 use Rattle.leaf_work.specs.Tests.{oneOf}
 use Rattle.leaf_work.specs.Lent.{cutoffOf, separatorOf}
@@ -56,7 +56,7 @@ module _ (size : ℕ) (rows keys : List (List ℕ)) (store page : List ℕ) (s :
     pub fits : LeafFits size leaf before
     pub rest : drop (leaf .count) before ≡ behind
     pub some-record : 0 < leaf .count
-    pub rise : keysRise before ≡ true
+    pub rise : isRising before ≡ true
     pub count-is : p .left .count ≡ length before
     pub bytes-is : p .left .bytes ≡ total before
     pub page-room : p .leaves * size + size ≤ area

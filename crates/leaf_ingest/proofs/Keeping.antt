@@ -11,7 +11,7 @@ use Rattle.leaf_node.specs.declared.Place.the-variants.{Found, Absent}
 use Rattle.leaf_node.specs.Record.{total}
 use Rattle.leaf_node.specs.Page.{count, run, recordsBetween, valuesSize}
 use Rattle.leaf_node.specs.Search.{placeFrom, searchOf}
-use Rattle.leaf_node.specs.Steps.{Laid, Rising, Readable}
+use Rattle.leaf_node.specs.Steps.{Laid, Sorted, Readable}
 use Rattle.leaf_work.specs.declared.Work.{Work}
 use Rattle.leaf_work.specs.Tests.{bit}
 use Rattle.leaf_work.specs.TakingUp.{stop, drops}
@@ -92,7 +92,7 @@ module _ (w : Work) (page k : List ℕ) (n : ℕ) (b : Base w page n) where
     pub a-rest-is-laid : Laid page n
     a-rest-is-laid = b .laid (omega arith)
 
-    pub a-rest-rises : Rising page n
+    pub a-rest-rises : Sorted page n
     a-rest-rises = b .rising (omega arith)
 
     module _ (s : Place) (e : s ≡ searchOf page (w .low) k) (i : ℕ) where

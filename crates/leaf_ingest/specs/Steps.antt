@@ -10,7 +10,7 @@ use lib.ListN.{length, take, drop}
 use Rattle.refusal.specs.Refusal.{accepted, outOfTurn, longValue, keyTooLow, keyPastCutoff, listFull, storeFull}
 use Rattle.leaf_node.specs.Limits.{PageSize, valueLimit}
 use Rattle.leaf_node.specs.Page.{count, start, lengthAt, flagAt, valuesSize}
-use Rattle.leaf_node.specs.Steps.{Laid, Rising, Readable}
+use Rattle.leaf_node.specs.Steps.{Laid, Sorted, Readable}
 use Rattle.leaf_node.specs.Build.{put}
 use Rattle.leaf_model.specs.Work.{Change, belowCutoff, inserted}
 use Rattle.leaf_work.specs.declared.Work.{Work}
@@ -37,7 +37,7 @@ pub record Base (w : Work) (page : List ℕ) (n : ℕ) : Type 0 where
   pub counted : n ≡ count page
   pub low-in : w .low ≤ n
   pub laid : 0 < n → Laid page n
-  pub rising : 0 < n → Rising page n
+  pub rising : 0 < n → Sorted page n
   pub short : length page ≤ 32767
 
 -- records `low` up to `stop` are taken up, and the one at `stop` is dropped or not

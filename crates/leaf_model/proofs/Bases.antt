@@ -11,12 +11,12 @@ use lib.ListN.{length}
 use Rattle.bit_ops.specs.Key.{num, ltKey}
 use Rattle.leaf_node.specs.Limits.{valueLimit}
 use Rattle.leaf_node.specs.Record.{Record}
-use Rattle.leaf_node.specs.Fits.{All, nil, cons}
-use Rattle.leaf_model.specs.Work.{Turn, Open, Waiting, Done, Work, Leaf, Base, NextBase, RemoveCutoff, hasKeyLength, belowCutoff, orElse, current, withBase, awaitsBase, reachesCutoff, keysRise, withinBounds, goodBase, allowed, effect}
+use Rattle.leaf_node.specs.Fits.{All, nil, cons, Rising, rise[], rise∷}
+use Rattle.leaf_model.specs.Work.{Turn, Open, Waiting, Done, Work, Leaf, Base, NextBase, RemoveCutoff, hasKeyLength, belowCutoff, orElse, current, withBase, awaitsBase, reachesCutoff, isRising, withinBounds, goodBase, allowed, effect}
 use Rattle.leaf_model.specs.Tally.{tallied, openedOn, opened, goodOpening}
-use Rattle.leaf_model.specs.Claim.{Lt, Le, Rising, rise[], rise∷, recordsOf}
+use Rattle.leaf_model.specs.Claim.{Lt, Le, recordsOf}
 use Rattle.leaf_model.proofs.Tests.{clash, none-is-not-some, and-left, and-right}
-use Rattle.leaf_model.proofs.Lists.{all-append, all-left, all-map}
+use Rattle.leaf_model.proofs.Lists.{all-append, all-head, all-left, all-map}
 use Rattle.leaf_model.proofs.Keys.{lt-of-test, le-of-not, test-of-lt, lt-of-cutoff, rising-head, rising-append}
 use Rattle.leaf_model.proofs.Cutting.{Fitting}
 use Rattle.leaf_model.proofs.Separators.{AtOrAbove, BelowCutoff, links[]}
@@ -24,13 +24,18 @@ use Rattle.leaf_model.proofs.Invariant.{HasKeyLength, AtTurn, Invariant
 
 -- ---- a base that is not refused
 
-pub rising-of-test : (xs : List Record) → keysRise xs ≡ true → Rising xs
+pub rising-of-test : (xs : List Record) → isRising xs ≡ true → Rising xs
 rising-of-test [] h = rise[]
 rising-of-test (x ∷ []) h = rise∷ nil rise[]
 rising-of-test (x ∷ y ∷ ys) h =
     let u = rising-of-test (y ∷ ys) (and-right (ltKey (x .key) (y .key)) _ h) in
     let l = lt-of-test (x .key) (y .key) (and-left (ltKey (x .key) (y .key)) _ h) in
     rise∷ (cons l (all-map (λ r p. lt-trans l p) (rising-head u))) u
+
+pub rising-test : {xs : List Record} → Rising xs → isRising xs ≡ true
+rising-test rise[] = refl
+rising-test (rise∷ {xs = []} a h) = refl
+rising-test (rise∷ {x = x} {xs = y ∷ ys} a h) = rw (test-of-lt (x .key) (y .key) (all-head a), rising-test h)
 
 pub record BaseFacts (size : ℕ) (b : Base) : Type 0 where
   pub rising : Rising (b .records)
@@ -58,9 +63,9 @@ within-all size s c (x ∷ xs) h =
 pub base-facts : (size : ℕ) (b : Base) → goodBase size b ≡ true → BaseFacts size b
 base-facts size b h =
     let h₁ = and-right (belowCutoff (b .cutoff) (b .separator)) _ h in
-    let a = within-all size (b .separator) (b .cutoff) (b .records) (and-right (keysRise (b .records)) _ h₁) in
+    let a = within-all size (b .separator) (b .cutoff) (b .records) (and-right (isRising (b .records)) _ h₁) in
     record {
-      rising = rising-of-test (b .records) (and-left (keysRise (b .records)) _ h₁);
+      rising = rising-of-test (b .records) (and-left (isRising (b .records)) _ h₁);
       above-separator = all-map (λ r p. p .0) a;
       below-cutoff = all-map (λ r p. p .1) a;
       fitting = all-map (λ r p. p .2) a;

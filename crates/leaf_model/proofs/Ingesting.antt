@@ -9,10 +9,10 @@ use native.Mathlib.Omega.{arith}
 use borrow.Author.Tests.{eqb-true, eqb-false, ne-eqb}
 use Rattle.bit_ops.specs.Key.{num, ltKey, eqKey}
 use Rattle.leaf_node.specs.Record.{Record}
-use Rattle.leaf_node.specs.Fits.{All, nil, cons}
+use Rattle.leaf_node.specs.Fits.{All, nil, cons, Rising, rise[], rise∷}
 use Rattle.leaf_model.specs.Work.{Change, recordsBelow, recordsAbove, inserted}
 use Rattle.leaf_model.specs.Tally.{strike, place, placeAll}
-use Rattle.leaf_model.specs.Claim.{Lt, Rising, rise[], rise∷}
+use Rattle.leaf_model.specs.Claim.{Lt}
 use Rattle.leaf_model.proofs.Lists.{all-append, all-left, all-right, all-head, all-tail, all-map, all-both}
 use Rattle.leaf_model.proofs.Keys.{lt-of-test, le-of-test, test-of-lt, test-of-le, rising-head, rising-tail, rising-append, rising-left, rising-right, rising-before}
 

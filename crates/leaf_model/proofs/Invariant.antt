@@ -10,12 +10,12 @@ use lib.ListN.{length}
 use Rattle.bit_ops.specs.Key.{ltKey}
 use Rattle.leaf_node.specs.Limits.{mergeBelow, valueLimit, PageSize}
 use Rattle.leaf_node.specs.Record.{Record, body}
-use Rattle.leaf_node.specs.Fits.{All}
+use Rattle.leaf_node.specs.Fits.{All, Rising}
 use Rattle.leaf_model.specs.Basics.{joined, nonempty}
 use Rattle.leaf_model.specs.Cut.{Cut}
 use Rattle.leaf_model.specs.Work.{Turn, Open, Waiting, Done, Work, Leaf, Change, Ingest, Digest, pending, hasKeyLength, belowCutoff, letsIn, orElse, current, recordsBelow, inserted, ingested, turnAfter, separatorAfter, overrideAfter, floorAfter, planned, given, digested, isOpen, isWaiting, changeFits, allowed}
 use Rattle.leaf_model.specs.Tally.{strike, placeAll, tallied}
-use Rattle.leaf_model.specs.Claim.{Lt, Le, Rising, recordsOf, LeafGood}
+use Rattle.leaf_model.specs.Claim.{Lt, Le, recordsOf, LeafGood}
 use Rattle.leaf_model.proofs.Tests.{clash, none-is-not-some, and-left, and-right}
 use Rattle.leaf_model.proofs.Lists.{all-append, all-left, all-right, all-map, nonempty-append}
 use Rattle.leaf_model.proofs.Keys.{lt-of-test, le-of-not, lt-of-cutoff, rising-right}

@@ -7,9 +7,9 @@ use Prim.Native.Nat.{ℕ}
 use borrow.Author.Tests.{ltb-true, ltb-false, lt-ltb, le-ltb, not-true}
 use Rattle.bit_ops.specs.Key.{num, ltKey}
 use Rattle.leaf_node.specs.Record.{Record}
-use Rattle.leaf_node.specs.Fits.{All, nil, cons}
+use Rattle.leaf_node.specs.Fits.{All, nil, cons, Rising, rise[], rise∷}
 use Rattle.leaf_model.specs.Work.{belowCutoff}
-use Rattle.leaf_model.specs.Claim.{Lt, Le, Rising, rise[], rise∷}
+use Rattle.leaf_model.specs.Claim.{Lt, Le}
 use Rattle.leaf_model.proofs.Lists.{all-append, all-left, all-right}
 
 pub lt-of-test : (a b : List ℕ) → ltKey a b ≡ true → Lt a b

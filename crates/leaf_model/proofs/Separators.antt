@@ -9,10 +9,10 @@ use native.Mathlib.Nat.{le-of-lt, lt-of-le-of-lt}
 use Rattle.bit_ops.specs.Separate.{separateOf}
 use Rattle.bit_ops.proofs.Separators.{separator-is-above-a, separator-is-at-most-b}
 use Rattle.leaf_node.specs.Record.{Record}
-use Rattle.leaf_node.specs.Fits.{All, nil, cons}
+use Rattle.leaf_node.specs.Fits.{All, nil, cons, Rising}
 use Rattle.leaf_model.specs.Basics.{joined, nonempty}
 use Rattle.leaf_model.specs.Work.{Leaf, belowCutoff, lastKey, leafCutoff, nextSeparator, isLinked, orElse, withSeparators, separatorAfter, overrideAfter}
-use Rattle.leaf_model.specs.Claim.{Lt, Le, Rising, recordsOf, LeafGood}
+use Rattle.leaf_model.specs.Claim.{Lt, Le, recordsOf, LeafGood}
 use Rattle.leaf_model.proofs.Tests.{clash, none-is-not-some}
 use Rattle.leaf_model.proofs.Lists.{all-left, all-right, all-head, all-map}
 use Rattle.leaf_model.proofs.Keys.{lt-of-cutoff, rising-head, rising-right, rising-before}

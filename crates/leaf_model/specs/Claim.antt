@@ -7,7 +7,7 @@ use Prim.Native.Nat.{ℕ, _≤_, _<_}
 use Rattle.bit_ops.specs.Key.{num}
 use Rattle.leaf_node.specs.Limits.{bodyLimit, mergeBelow}
 use Rattle.leaf_node.specs.Record.{Record, body}
-use Rattle.leaf_node.specs.Fits.{All}
+use Rattle.leaf_node.specs.Fits.{All, Rising}
 use Rattle.leaf_model.specs.Basics.{joined, nonempty}
 use Rattle.leaf_model.specs.Work.{Leaf, pending, lastKey}
 use Rattle.leaf_model.specs.Tally.{Run}
@@ -18,11 +18,6 @@ Lt a b = num a < num b
 
 abbrev pub Le : List ℕ → List ℕ → Type 0
 Le a b = num a ≤ num b
-
--- the keys strictly rise: each is below all that come after it
-pub data Rising : List Record → Type 0 where
-  rise[] : Rising []
-  rise∷ : {x : Record} {xs : List Record} → All (λ y. Lt (x .key) (y .key)) xs → Rising xs → Rising (x ∷ xs)
 
 -- the records of leaves, in order
 abbrev pub recordsOf : List Leaf → List Record

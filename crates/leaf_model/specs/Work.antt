@@ -272,12 +272,13 @@ abbrev pub reachesCutoff : Option (List ℕ) → List ℕ → Bool
 reachesCutoff none s = false
 reachesCutoff (some c) s = not (ltKey s c)
 
--- a good page's records: "keys strictly rise", "values are at most 1,332 bytes"; No. 6: no key outside separator and cutoff
-abbrev pub keysRise : List Record → Bool
-keysRise [] = true
-keysRise (x ∷ []) = true
-keysRise (x ∷ y ∷ ys) = ltKey (x .key) (y .key) && keysRise (y ∷ ys)
+-- "keys strictly rise", as a test of neighbours; `rising-of-test` and `rising-test` (proofs/Bases) show that it is `Rising`
+abbrev pub isRising : List Record → Bool
+isRising [] = true
+isRising (x ∷ []) = true
+isRising (x ∷ y ∷ ys) = ltKey (x .key) (y .key) && isRising (y ∷ ys)
 
+-- a good page's records: "values are at most 1,332 bytes"; No. 6: no key outside separator and cutoff
 abbrev pub withinBounds : ℕ → List ℕ → Option (List ℕ) → List Record → Bool
 withinBounds size s c [] = true
 withinBounds size s c (x ∷ xs) =
@@ -285,7 +286,7 @@ withinBounds size s c (x ∷ xs) =
 
 -- No. 6: "cutoff not above separator" too
 abbrev pub goodBase : ℕ → Base → Bool
-goodBase size b = belowCutoff (b .cutoff) (b .separator) && (keysRise (b .records) && withinBounds size (b .separator) (b .cutoff) (b .records))
+goodBase size b = belowCutoff (b .cutoff) (b .separator) && (isRising (b .records) && withinBounds size (b .separator) (b .cutoff) (b .records))
 
 abbrev pub allowed : ℕ → Work → Call → Bool
 allowed size w (Ingest k c) = isOpen (w .turn) && (letsIn w k && (belowCutoff (w .cutoff) k && (changeFits size c && hasKeyLength k)))

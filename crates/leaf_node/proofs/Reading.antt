@@ -15,7 +15,7 @@ use Rattle.leaf_node.specs.Good.{Good, pageVerdict, indexVerdict, rangeV
 use Rattle.leaf_node.specs.Search.{searchOf}
 use Rattle.leaf_node.specs.Reply.{cellAt, keyReply, valueReply, sizeReply, getOf, getReply, getNumber}
 use Rattle.leaf_node.specs.Build.{put}
-use Rattle.leaf_node.specs.Steps.{Readable, Laid, Rising}
+use Rattle.leaf_node.specs.Steps.{Readable, Laid, Sorted}
 use Rattle.leaf_node.specs.declared.Cell.{Cell}
 use Rattle.leaf_node.specs.declared.KeyReply.{KeyReply}
 use Rattle.leaf_node.specs.declared.Place.{Place}
@@ -78,7 +78,7 @@ module _ (size : ℕ) (p : List ℕ) (s : PageSize size) (g : Good size p) where
   pub good-pages-are-laid : Laid p (count p)
   good-pages-are-laid = record { counted = refl; inside = pointers-inside; steps = starts-in-order }
 
-  pub good-pages-rise : Rising p (count p)
+  pub good-pages-rise : Sorted p (count p)
   good-pages-rise = record { counted = refl; inside = pointers-inside; rise = g .keys }
 
   pub good-pages-are-readable : (i : ℕ) → i < count p → Readable p i
@@ -96,7 +96,7 @@ module _ (size : ℕ) (p : List ℕ) (v : ℕ) (e : v ≡ pageVerdict size p) (z
   pub checked-laid : (n : ℕ) → n ≡ count p → Laid p n
   checked-laid n q = rw q (good-pages-are-laid size p s checked)
 
-  pub checked-rising : (n : ℕ) → n ≡ count p → Rising p n
+  pub checked-rising : (n : ℕ) → n ≡ count p → Sorted p n
   checked-rising n q = rw q (good-pages-rise size p s checked)
 
 -- ---- reads by index: refused by the page, refused for the index, or answered

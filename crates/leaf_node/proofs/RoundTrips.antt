@@ -21,7 +21,8 @@ use Rattle.leaf_node.specs.Page.{word, count, pointer, keyAt, numberAt, 
 use Rattle.leaf_node.specs.Good.{OffsetsRight, ValuesFit, KeysRise, Good}
 use Rattle.leaf_node.specs.Build.{le16, tagged, pointers, build, gapCleared}
 use Rattle.leaf_node.specs.Steps.{Laid}
-use Rattle.leaf_node.specs.Fits.{All, cons, Keyed, Fitting, Ascending, rise-none, rise-one, rise-more, Fits, Proper}
+use Rattle.leaf_node.specs.Fits.{All, cons, Keyed, Fitting, Rising, rise[], rise∷, Fits, Proper}
+use Rattle.leaf_node.proofs.Searches.{rise-on}
 use Rattle.leaf_node.proofs.Reading.{start-in, start-end, pointers-end-before-values, good-pages-are-laid}
 use Rattle.leaf_node.proofs.Lengths.{length-le16, length-values, length-pointers, length-zeros, length-run, all-run}
 pub use Rattle.leaf_node.proofs.Lengths.{body-is-pointers-and-values}
@@ -229,13 +230,13 @@ all-at zero i f a k h l = absurd (omega arith)
 all-at {P = P} (suc m) i f a k h l =
     ⊎-elim (λ (q : i ≡ k). rw (← q) (all-head a)) (λ (q : i < k). all-at m (suc i) f (all-tail a) k q (omega arith)) (eq-or-lt-of-le {n = i} {m = k} h)
 
-rise-head : {r s : Record} {rs : List Record} → Ascending (r ∷ s ∷ rs) → num (r .key) < num (s .key)
-rise-head (rise-more h a) = h
+rise-head : {r s : Record} {rs : List Record} → Rising (r ∷ s ∷ rs) → num (r .key) < num (s .key)
+rise-head (rise∷ a h) = all-head a
 
-rise-tail : {r s : Record} {rs : List Record} → Ascending (r ∷ s ∷ rs) → Ascending (s ∷ rs)
-rise-tail (rise-more h a) = a
+rise-tail : {r : Record} {rs : List Record} → Rising (r ∷ rs) → Rising rs
+rise-tail (rise∷ a h) = h
 
-rise-at : (m i : ℕ) (f : ℕ → Record) → Ascending (run m i f) → (k : ℕ) → i ≤ k → k + 1 < i + m → num (f k .key) < num (f (k + 1) .key)
+rise-at : (m i : ℕ) (f : ℕ → Record) → Rising (run m i f) → (k : ℕ) → i ≤ k → k + 1 < i + m → num (f k .key) < num (f (k + 1) .key)
 unfolding run
 rise-at zero i f a k h l = absurd (omega arith)
 rise-at (suc zero) i f a k h l = absurd (omega arith)
@@ -245,7 +246,7 @@ rise-at (suc (suc m)) i f a k h l =
 
 -- a page whose values are laid and whose records are proper is good
 module _ (size : ℕ) (p : List ℕ) (l : Laid p (count p)) (sized : length p ≡ size) (few : count p ≤ recordLimit size) (first : pointer (count p) ≤ start p 0)
-    (fitting : All (Fitting size) (records p)) (rise : Ascending (records p)) where
+    (fitting : All (Fitting size) (records p)) (rise : Rising (records p)) where
   offset-is : (i : ℕ) → i < count p → offsetAt p i ≡ start p i
   offset-is i h = start-in p (count p) i (offsetAt p i) refl h refl
 
@@ -391,11 +392,11 @@ module _ (size : ℕ) (p : List ℕ) (s : PageSize size) (g : Good size p) where
   fitting-run m i e =
       all-run (Fitting size) m i (recordAt p) (λ j a b. omega (arith, value-length p (count p) (good-pages-are-laid size p s g) j (omega arith), g .values j (omega arith)))
 
-  rise-run : (m i : ℕ) → i + m ≤ count p → Ascending (run m i (recordAt p))
+  rise-run : (m i : ℕ) → i + m ≤ count p → Rising (run m i (recordAt p))
   unfolding run recordAt
-  rise-run zero i e = rise-none
-  rise-run (suc zero) i e = rise-one
-  rise-run (suc (suc m)) i e = rise-more (rw (add-one i) at (g .keys i (omega arith))) (rise-run (suc m) (suc i) (omega arith))
+  rise-run zero i e = rise[]
+  rise-run (suc m) i e =
+      rise∷ (all-run (λ y. num (keyAt p i) < num (y .key)) m (suc i) (recordAt p) (λ j a b. rise-on p (g .keys) i j a (omega arith))) (rise-run m (suc i) (omega arith))
 
   -- a range of records fits into a page again
   module _ (from to : ℕ) (h : from ≤ to) (k : to ≤ count p) where

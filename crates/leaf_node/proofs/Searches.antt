@@ -23,7 +23,7 @@ use Rattle.leaf_node.specs.Page.{count, pointer, keyAt}
 use Rattle.leaf_node.specs.Good.{KeysRise, Good}
 use Rattle.leaf_node.specs.Search.{placeFrom, searchOf}
 use Rattle.leaf_node.specs.Reply.{cellAt, getOf}
-use Rattle.leaf_node.specs.Steps.{Laid, Rising, Readable}
+use Rattle.leaf_node.specs.Steps.{Laid, Sorted, Readable}
 use Rattle.leaf_node.proofs.Rules.{both}
 use Rattle.leaf_node.proofs.Reading.{pointers-inside}
 
@@ -92,7 +92,7 @@ module _ (p : List ℕ) (n from : ℕ) (k : List ℕ) (lo hi : ℕ) (b : Bracket
       (record { low = b .low; high = omega arith; below = b .below; at = λ l. b .above lo h (omega arith) })
       (place-parts p k (n - from) from)
 
-  module _ (s : Rising p n) (l : lo < hi) (x : List ℕ) (t : Bool) (q : x ≡ keyAt p (lo + (hi - lo) / 2)) (e : t ≡ ltKey x k) where
+  module _ (s : Sorted p n) (l : lo < hi) (x : List ℕ) (t : Bool) (q : x ≡ keyAt p (lo + (hi - lo) / 2)) (e : t ≡ ltKey x k) where
     pub bracket-up : t ≡ true → Bracket p n from k (lo + (hi - lo) / 2 + 1) hi
     unfolding ltKey
     bracket-up h =

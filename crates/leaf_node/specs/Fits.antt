@@ -20,11 +20,10 @@ Keyed r = length (r .key) ≡ 32
 abbrev pub Fitting : ℕ → Record → Type 0
 Fitting size r = length (r .value) ≤ valueLimit size
 
--- each key is below the next
-pub data Ascending : List Record → Type 0 where
-  rise-none : Ascending []
-  rise-one : {r : Record} → Ascending (r ∷ [])
-  rise-more : {r s : Record} {rs : List Record} → num (r .key) < num (s .key) → Ascending (s ∷ rs) → Ascending (r ∷ s ∷ rs)
+-- "keys strictly rise": each is below all that come after it
+pub data Rising : List Record → Type 0 where
+  rise[] : Rising []
+  rise∷ : {x : Record} {xs : List Record} → All (λ y. num (x .key) < num (y .key)) xs → Rising xs → Rising (x ∷ xs)
 
 -- the records fit into one page of `size` bytes
 pub record Fits (size : ℕ) (rs : List Record) : Type 0 where
@@ -36,4 +35,4 @@ pub record Fits (size : ℕ) (rs : List Record) : Type 0 where
 pub record Proper (size : ℕ) (rs : List Record) : Type 0 where
   pub fits : Fits size rs
   pub fitting : All (Fitting size) rs
-  pub rise : Ascending rs
+  pub rise : Rising rs

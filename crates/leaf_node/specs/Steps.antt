@@ -24,7 +24,7 @@ pub record Laid (p : List ℕ) (n : ℕ) : Type 0 where
   pub steps : (i : ℕ) → i < n → start p i ≤ start p (i + 1)
 
 -- the keys of the page's n records rise
-pub record Rising (p : List ℕ) (n : ℕ) : Type 0 where
+pub record Sorted (p : List ℕ) (n : ℕ) : Type 0 where
   pub counted : n ≡ count p
   pub inside : pointer n ≤ length p
   pub rise : KeysRise p

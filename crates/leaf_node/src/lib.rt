@@ -27,7 +27,7 @@ ghost use Rattle.leaf_node.specs.Good.{offsetsRight, valuesFit, keysRise
 ghost use Rattle.leaf_node.specs.Search.{placeFrom, searchOf};
 ghost use Rattle.leaf_node.specs.Reply.{cellAt, keyReply, valueReply, sizeReply, getOf, getReply, valueNumber, sizeNumber, getNumber};
 ghost use Rattle.leaf_node.specs.Build.{put};
-ghost use Rattle.leaf_node.specs.Steps.{Pointed, Readable, Laid, Rising};
+ghost use Rattle.leaf_node.specs.Steps.{Pointed, Readable, Laid, Sorted};
 
 // The page size of the public calls; every other function takes the size that the page has.
 pub const PAGE_SIZE: usize = 4096;
@@ -328,7 +328,7 @@ pub fn values_size(page: &[u8], from: usize, to: usize) -> SizeReply
 // The first of the records from `from` on whose key isn't below `key`, or n. It halves: lo and hi bracket the answer,
 // and each turn halves hi - lo.
 fn place_from(page: &[u8], n: usize, from: usize, key: &[u8]) -> usize
-    requires { ⌜ (Rising (now page) n) × (from ≤ n) × (length (now key) ≡ 32) ⌝ }
+    requires { ⌜ (Sorted (now page) n) × (from ≤ n) × (length (now key) ≡ 32) ⌝ }
     ensures { λ r. ⌜ (r ≡ placeFrom (now (page .entry)) (n - from) from (now (key .entry))) × (r ≤ n) ⌝ }
 {
     let mut lo = from;
@@ -346,7 +346,7 @@ fn place_from(page: &[u8], n: usize, from: usize, key: &[u8]) -> usize
 
 // Where a key stands among the records from `from` on. Rising keys make one place of it.
 pub fn search(page: &[u8], n: usize, from: usize, key: &[u8]) -> Place
-    requires { ⌜ (Rising (now page) n) × (from ≤ n) × (length (now key) ≡ 32) ⌝ }
+    requires { ⌜ (Sorted (now page) n) × (from ≤ n) × (length (now key) ≡ 32) ⌝ }
     ensures { λ r. ⌜ r ≡ searchOf (now (page .entry)) from (now (key .entry)) ⌝ }
 {
     let i = place_from(page, n, from, key);
@@ -361,7 +361,7 @@ pub fn search(page: &[u8], n: usize, from: usize, key: &[u8]) -> Place
 
 // The value of a key in a page with n records.
 fn find(page: &[u8], n: usize, key: &[u8]) -> GetReply
-    requires { ⌜ (Laid (now page) n) × (Rising (now page) n) × (length (now key) ≡ 32) ⌝ }
+    requires { ⌜ (Laid (now page) n) × (Sorted (now page) n) × (length (now key) ≡ 32) ⌝ }
     ensures { λ r. ⌜ r ≡ getOf (now (page .entry)) (searchOf (now (page .entry)) 0 (now (key .entry))) ⌝ }
 {
     let place = search(page, n, 0, key);

@@ -13,7 +13,7 @@ use Rattle.leaf_node.specs.Page.{count, keyAt, recordAt, run, recordsBetween}
 use Rattle.leaf_node.specs.Good.{KeysRise}
 use Rattle.leaf_node.specs.Fits.{All, nil, cons}
 use Rattle.leaf_model.specs.Basics.{nonempty}
-use Rattle.leaf_model.specs.Work.{aboveLast, belowCutoff, keysRise}
+use Rattle.leaf_model.specs.Work.{aboveLast, belowCutoff, isRising}
 use Rattle.leaf_model.proofs.Tests.{and-left, and-right}
 use Rattle.leaf_model.proofs.Lists.{all-map}
 use Rattle.leaf_model.proofs.Keys.{lt-of-test, le-of-not, test-of-lt}
@@ -114,11 +114,11 @@ above-all l (x ∷ xs) h =
     cons a (all-map (λ r b. lt-trans a b) (above-all (x .key) xs (and-right (ltKey l (x .key)) _ h)))
 
 -- keys that rise behind a separator rise, and are at or above it
-pub rise-of : (l : List ℕ) (xs : List Record) → rises false l xs ≡ true → keysRise xs ≡ true
+pub rise-of : (l : List ℕ) (xs : List Record) → rises false l xs ≡ true → isRising xs ≡ true
 rise-of l [] h = refl
 rise-of l (x ∷ xs) h = go (x .key) xs (and-right (not (ltKey (x .key) l)) _ h) x refl
   where
-    go : (k : List ℕ) (ys : List Record) → rises true k ys ≡ true → (y : Record) → y .key ≡ k → keysRise (y ∷ ys) ≡ true
+    go : (k : List ℕ) (ys : List Record) → rises true k ys ≡ true → (y : Record) → y .key ≡ k → isRising (y ∷ ys) ≡ true
     go k [] h y e = refl
     go k (z ∷ zs) h y e = rw e (and-both (and-left (ltKey k (z .key)) _ h) (go (z .key) zs (and-right (ltKey k (z .key)) _ h) z refl))
 
@@ -129,11 +129,11 @@ at-or-above-of l (x ∷ xs) h =
     cons a (all-map (λ r b. le-of-lt (lt-of-le-of-lt a b)) (above-all (x .key) xs (and-right (not (ltKey (x .key) l)) _ h)))
 
 -- and the other way
-rises-on : (k : List ℕ) (y : Record) (ys : List Record) → y .key ≡ k → keysRise (y ∷ ys) ≡ true → rises true k ys ≡ true
+rises-on : (k : List ℕ) (y : Record) (ys : List Record) → y .key ≡ k → isRising (y ∷ ys) ≡ true → rises true k ys ≡ true
 rises-on k y [] e h = refl
 rises-on k y (z ∷ zs) e h = and-both {a = ltKey k (z .key)} (rw (← e) (and-left (ltKey (y .key) (z .key)) _ h)) (rises-on (z .key) z zs refl (and-right (ltKey (y .key) (z .key)) _ h))
 
-pub rises-of : (l : List ℕ) (xs : List Record) → keysRise xs ≡ true → All (λ r. not (ltKey (r .key) l) ≡ true) xs → rises false l xs ≡ true
+pub rises-of : (l : List ℕ) (xs : List Record) → isRising xs ≡ true → All (λ r. not (ltKey (r .key) l) ≡ true) xs → rises false l xs ≡ true
 rises-of l [] h a = refl
 rises-of l (x ∷ xs) h (cons a az) = and-both a (rises-on (x .key) x xs refl h)
 

@@ -12,21 +12,16 @@ use Rattle.leaf_node.specs.Limits.{PageSize, bodyLimit, recordLimit}
 use Rattle.leaf_node.specs.Record.{Record, total}
 use Rattle.leaf_node.specs.Page.{count, records}
 use Rattle.leaf_node.specs.Good.{Good, pageVerdict}
-use Rattle.leaf_node.specs.Fits.{All, nil, cons, Keyed, Fitting, Ascending, rise-none, rise-one, rise-more, Proper}
+use Rattle.leaf_node.specs.Fits.{All, nil, cons, Keyed, Fitting, Proper}
 use Rattle.leaf_node.proofs.Verdicts.{accepted-pages-are-the-good-ones}
 use Rattle.leaf_node.proofs.Reading.{good-pages-are-laid}
 use Rattle.leaf_node.proofs.Laying.{range-length}
 use Rattle.leaf_node.proofs.RoundTrips.{records-of-a-good-page-are-proper, body-is-pointers-and-values}
-use Rattle.leaf_model.specs.Work.{belowCutoff, keysRise, withinBounds, goodBase}
+use Rattle.leaf_model.specs.Work.{belowCutoff, withinBounds, goodBase}
 use Rattle.leaf_model.proofs.Tests.{and-left, and-right}
-use Rattle.leaf_model.proofs.Keys.{test-of-lt}
+use Rattle.leaf_model.proofs.Bases.{rising-test}
 use Rattle.leaf_work.specs.Verdict.{unless, keysWithin, baseVerdict, keysVerdict}
 use Rattle.leaf_work.proofs.Tests.{and-both, passed, first-passed, first-zero, every-all}
-
-rise-test : {xs : List Record} → Ascending xs → keysRise xs ≡ true
-rise-test rise-none = refl
-rise-test rise-one = refl
-rise-test (rise-more {r} {s} h a) = and-both (test-of-lt (r .key) (s .key) h) (rise-test a)
 
 within-test : (size : ℕ) (s : List ℕ) (c : Option (List ℕ)) {xs : List Record} → All (λ r. (not (ltKey (r .key) s) && belowCutoff c (r .key)) ≡ true) xs
     → All (Fitting size) xs → All Keyed xs → withinBounds size s c xs ≡ true
@@ -69,7 +64,7 @@ module _ (size : ℕ) (q : PageSize size) (page sep : List ℕ) (cut : Option (L
   base-is-good =
       let a = all-proper size q page base-page-is-good in
       and-both separator-below-cutoff
-      (and-both (rise-test (a .rise))
+      (and-both (rising-test (a .rise))
       (within-test size sep cut (every-all _ (records page) (and-right (belowCutoff cut sep) _ (base-parts .1))) (a .fitting) (a .fits .keys)))
 
   -- what the calls after it test is less

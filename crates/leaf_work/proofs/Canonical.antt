@@ -15,10 +15,10 @@ use Rattle.bit_ops.specs.Steps.{zeros}
 use Rattle.leaf_node.specs.Limits.{mergeBelow, PageSize}
 use Rattle.leaf_node.specs.Record.{Record, body, total}
 use Rattle.leaf_node.specs.Page.{count, run, recordsBetween}
-use Rattle.leaf_node.specs.Fits.{All, nil, cons}
+use Rattle.leaf_node.specs.Fits.{All, nil, cons, Rising, rise[], rise∷}
 use Rattle.leaf_model.specs.Basics.{nonempty}
 use Rattle.leaf_model.specs.Work.{Turn, Open, Waiting, Done, Leaf, aboveLast, belowCutoff}
-use Rattle.leaf_model.specs.Claim.{Lt, Le, Rising, rise[], rise∷}
+use Rattle.leaf_model.specs.Claim.{Lt, Le}
 use Rattle.leaf_model.proofs.Tests.{clash, and-left, and-right}
 use Rattle.leaf_model.proofs.Lists.{all-left, all-head, all-map}
 use Rattle.leaf_model.proofs.Keys.{lt-of-test, le-of-test, le-of-not, rising-left}

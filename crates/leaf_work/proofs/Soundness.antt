@@ -11,14 +11,15 @@ use Rattle.bit_ops.specs.Key.{num, ltKey}
 use Rattle.leaf_node.specs.Limits.{valueLimit}
 use Rattle.leaf_node.specs.Record.{Record, body, total}
 use Rattle.leaf_node.specs.Page.{count}
-use Rattle.leaf_node.specs.Fits.{All, nil, cons}
+use Rattle.leaf_node.specs.Fits.{All, nil, cons, Rising}
 use Rattle.leaf_model.specs.Basics.{nonempty}
-use Rattle.leaf_model.specs.Work.{Turn, Open, Waiting, Done, Leaf, belowCutoff, keysRise}
+use Rattle.leaf_model.specs.Work.{Turn, Open, Waiting, Done, Leaf, belowCutoff, isRising}
 use Rattle.leaf_model.specs.Work as model
-use Rattle.leaf_model.specs.Claim.{Lt, Rising, rise[], rise∷, recordsOf}
+use Rattle.leaf_model.specs.Claim.{Lt, recordsOf}
 use Rattle.leaf_model.proofs.Tests.{clash, and-left}
-use Rattle.leaf_model.proofs.Lists.{all-left, all-right, all-head, all-map, all-both}
-use Rattle.leaf_model.proofs.Keys.{test-of-lt, test-of-le, le-of-not, lt-of-cutoff, rising-right}
+use Rattle.leaf_model.proofs.Lists.{all-left, all-right, all-map, all-both}
+use Rattle.leaf_model.proofs.Keys.{test-of-le, le-of-not, lt-of-cutoff, rising-right}
+use Rattle.leaf_model.proofs.Bases.{rising-test}
 use Rattle.leaf_model.proofs.Invariant.{Invariant, AtTurn, DoneFacts, at-waiting}
 use Rattle.leaf_work.specs.declared.Work.{Work}
 use Rattle.leaf_work.specs.declared.Entry.{Entry}
@@ -29,11 +30,6 @@ use Rattle.leaf_work.specs.Sound.{isBlank, isOperation, placed, anInsert
 use Rattle.leaf_work.proofs.Tests.{and-both, not-true, implies-if, all-every, all-replicate, same-bytes, key-is-there}
 use Rattle.leaf_work.proofs.Operations.{Op, ops-right, ops-placed, some-insert, all-inserts}
 use Rattle.leaf_work.proofs.Laid.{Laid, Kept, turnOf, waiting-turn, done-turn, waiting-is-not-open, an-ignored-page-has-no-records, list-length, store-length, used-entries, blank-entries, blank-bytes, listed-is, pending-parts, seesWork}
-
-rising-test : {xs : List Record} → Rising xs → keysRise xs ≡ true
-rising-test rise[] = refl
-rising-test (rise∷ {xs = []} a h) = refl
-rising-test (rise∷ {x = x} {xs = y ∷ ys} a h) = and-both (test-of-lt (x .key) (y .key) (all-head a)) (rising-test h)
 
 some-body : (xs : List Record) → nonempty xs ≡ true → 0 < body xs
 some-body [] h = clash h refl

@@ -5,7 +5,7 @@ use mathlib.Core.List.{List}
 use Prim.Native.Nat.{ℕ, _+_, _-_, _≤_, _<_}
 use lib.ListN.{length, getD}
 use Rattle.leaf_node.specs.Page.{count, valuesSize}
-use Rattle.leaf_node.specs.Steps.{Laid, Rising}
+use Rattle.leaf_node.specs.Steps.{Laid, Sorted}
 use Rattle.leaf_work.specs.declared.Work.{Work}
 use Rattle.leaf_work.specs.declared.Entry.{Entry}
 use Rattle.leaf_work.specs.Lent.{blank, mostEntries, mostStoreBytes}
@@ -28,7 +28,7 @@ pub record Ready (w : Work) (list : List Entry) (store page : List ℕ) : Type 0
   pub store-room : w .bytes + valuesSize page (w .low) (count page) ≤ length store
   -- a page with records is a good one
   pub laid : 0 < count page → Laid page (count page)
-  pub rising : 0 < count page → Rising page (count page)
+  pub rising : 0 < count page → Sorted page (count page)
   pub list-there : 0 < length list
   pub list-short : length list ≤ mostEntries
   pub store-short : length store ≤ mostStoreBytes

@@ -9,7 +9,7 @@ use Rattle.leaf_node.specs.Limits.{valueLimit, mergeBelow}
 use Rattle.leaf_node.specs.Record.{Record, body, total}
 use Rattle.leaf_node.specs.Page.{count, valuesSize}
 use Rattle.leaf_model.specs.Basics.{nonempty}
-use Rattle.leaf_model.specs.Work.{zeroKey, aboveLast, belowCutoff, keysRise}
+use Rattle.leaf_model.specs.Work.{zeroKey, aboveLast, belowCutoff, isRising}
 use Rattle.leaf_work.specs.declared.Work.{Work}
 use Rattle.leaf_work.specs.declared.Entry.{Entry}
 use Rattle.leaf_work.specs.Tests.{every, sameBytes, implies, isZero, isSet}
@@ -117,7 +117,7 @@ module _ (size : ℕ) (w : Work) (list : List Entry) (store page : List ℕ) whe
 
   -- "keys rise through the list and on into the base's rest"
   abbrev pub risen : Bool
-  risen = keysRise (pendingOf w list store page)
+  risen = isRising (pendingOf w list store page)
 
   -- "that rest lies above the last key taken"
   abbrev pub restAbove : Bool
