@@ -103,8 +103,8 @@ module _ (size : ℕ) (q : PageSize size) where
       rising = h .invariant .rising;
       refusals = calls-are-refused-as-the-table-says size s h q;
       digests = digests-as-document-01-says;
-      bodies = all-map (λ l g. record { most = g .fits; least = g .enough }) (h .invariant .leaves);
-      bounds = all-map (λ l g. record { some-record = g .some-record; first = g .first; last = g .last }) (h .invariant .leaves);
+      bodies = all-map (λ l g. g .0) (h .invariant .leaves);
+      bounds = all-map (λ l g. g .1) (h .invariant .leaves);
       linked = λ xs ys x y e. linked-leaf-ends-where-the-next-starts xs ys x y (rw e at (h .invariant .links));
     }
 

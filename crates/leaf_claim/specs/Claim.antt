@@ -3,19 +3,17 @@ use mathlib.Core.Path.{_≡_}
 use mathlib.Core.Bool.{true, not}
 use mathlib.Core.Option.{some}
 use mathlib.Core.List.{List, _∷_, _++_}
-use Prim.Native.Nat.{ℕ, _≤_}
+use Prim.Native.Nat.{ℕ}
 use lib.Dec.{leb}
 use lib.ListN.{length}
 use Rattle.refusal.specs.Refusal.{accepted, outOfTurn, longValue, keyTooLow, keyPastCutoff, listFull, storeFull, shortArea}
-use Rattle.leaf_node.specs.Limits.{bodyLimit, mergeBelow}
-use Rattle.leaf_node.specs.Record.{Record, body, total}
+use Rattle.leaf_node.specs.Record.{Record, total}
 use Rattle.leaf_node.specs.Page.{records}
 use Rattle.leaf_node.specs.Fits.{All, Rising}
-use Rattle.leaf_model.specs.Basics.{nonempty}
 use Rattle.leaf_model.specs.Cut.{Cut, cutAsWritten}
-use Rattle.leaf_model.specs.Work.{Leaf, belowCutoff, changeFits, finished, turnAfter, overrideAfter, floorAfter, lastKey, leavesBy}
+use Rattle.leaf_model.specs.Work.{Leaf, belowCutoff, changeFits, finished, turnAfter, overrideAfter, floorAfter, leavesBy}
 use Rattle.leaf_model.specs.Tally.{changed}
-use Rattle.leaf_model.specs.Claim.{Lt, Le, recordsOf}
+use Rattle.leaf_model.specs.Claim.{recordsOf, BodyRight, BoundsRight}
 use Rattle.leaf_work.specs.Tests.{isSet, keyIf}
 use Rattle.leaf_work.specs.Lent.{turnNumber, isOpen, isWaiting, cutoffOf, overrideOf, separatorOf}
 use Rattle.leaf_work.specs.Sound.{letsIn}
@@ -82,17 +80,6 @@ pub record Digests (size : ℕ) (s : State) (pending : List Record) (area ticket
   pub override : overrideOf (r .work) ≡ overrideAfter (separatorOf (s .work)) (stepsSay size s pending .leaves) (stepsSay size s pending .left)
   -- "after a merge request at or above the cutoff it named"
   pub floor : r .work .floor ≡ floorAfter (s .work .floor) (cutoffOf (s .work)) (stepsSay size s pending .left)
-
--- ---- what is due of a leaf
-
-pub record BodyRight (size : ℕ) (l : Leaf) : Type 0 where
-  pub most : body (l .records) ≤ bodyLimit size
-  pub least : (c : List ℕ) → l .cutoff ≡ some c → mergeBelow size ≤ body (l .records)
-
-pub record BoundsRight (l : Leaf) : Type 0 where
-  pub some-record : nonempty (l .records) ≡ true
-  pub first : All (λ r. Le (l .separator) (r .key)) (l .records)
-  pub last : (c : List ℕ) → l .cutoff ≡ some c → Lt (lastKey (l .records)) c
 
 -- ---- the claim, of the state that a sequence leaves
 

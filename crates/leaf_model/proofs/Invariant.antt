@@ -15,13 +15,13 @@ use Rattle.leaf_model.specs.Basics.{joined, nonempty}
 use Rattle.leaf_model.specs.Cut.{Cut}
 use Rattle.leaf_model.specs.Work.{Turn, Open, Waiting, Done, Work, Leaf, Change, Ingest, Digest, pending, hasKeyLength, belowCutoff, letsIn, orElse, current, recordsBelow, inserted, ingested, turnAfter, separatorAfter, overrideAfter, floorAfter, planned, given, digested, isOpen, isWaiting, changeFits, allowed}
 use Rattle.leaf_model.specs.Tally.{strike, placeAll, tallied}
-use Rattle.leaf_model.specs.Claim.{Lt, Le, recordsOf, LeafGood}
+use Rattle.leaf_model.specs.Claim.{Lt, Le, recordsOf}
 use Rattle.leaf_model.proofs.Tests.{clash, none-is-not-some, and-left, and-right}
 use Rattle.leaf_model.proofs.Lists.{all-append, all-left, all-right, all-map, nonempty-append}
 use Rattle.leaf_model.proofs.Keys.{lt-of-test, le-of-not, lt-of-cutoff, rising-right}
 use Rattle.leaf_model.proofs.Cutting.{whole, Fitting}
 use Rattle.leaf_model.proofs.Plan.{Sized, leaves-and-kept-are-the-records, leaves-have-right-sizes, kept-records-wait-for-a-merge}
-use Rattle.leaf_model.proofs.Separators.{AtOrAbove, BelowCutoff, leaves-have-the-cut-records, records-append, leaves-are-good, kept-records-are-above-their-separator, Links, links-append, leaves-of-a-digest-are-linked, digest-starts-at-its-separator, override-comes-with-records, records-come-with-override, kept-records-are-above-the-override, separator-is-below-cutoff}
+use Rattle.leaf_model.proofs.Separators.{AtOrAbove, BelowCutoff, leaves-have-the-cut-records, records-append, LeafRight, leaves-are-good, kept-records-are-above-their-separator, Links, links-append, leaves-of-a-digest-are-linked, digest-starts-at-its-separator, override-comes-with-records, records-come-with-override, kept-records-are-above-the-override, separator-is-below-cutoff}
 use Rattle.leaf_model.proofs.Ingesting.{Low, split, inserted-all, tally-changes-as-the-work-does, keys-rise-after-ingest, pending-all}
 
 abbrev pub HasKeyLength : Record → Type 0
@@ -57,7 +57,7 @@ AtTurn size Done w g = DoneFacts w
 pub record Invariant (size : ℕ) (w : Work) (g : List Leaf) (t : List Record) : Type 0 where
   pub tally : recordsOf g ++ pending w ≡ t
   pub rising : Rising t
-  pub leaves : All (LeafGood size) g
+  pub leaves : All (LeafRight size) g
   -- a linked leaf ends where the next one starts; the last one ends at the override, from which the next digest starts
   pub links : Links (w .override) g
   -- so that digest gives a leaf there, or keeps records there

@@ -12,7 +12,7 @@ use Rattle.leaf_node.specs.Record.{Record}
 use Rattle.leaf_node.specs.Fits.{All, nil, cons, Rising}
 use Rattle.leaf_model.specs.Basics.{joined, nonempty}
 use Rattle.leaf_model.specs.Work.{Leaf, belowCutoff, lastKey, leafCutoff, nextSeparator, isLinked, orElse, withSeparators, separatorAfter, overrideAfter}
-use Rattle.leaf_model.specs.Claim.{Lt, Le, recordsOf, LeafGood}
+use Rattle.leaf_model.specs.Claim.{Lt, Le, recordsOf, BodyRight, BoundsRight}
 use Rattle.leaf_model.proofs.Tests.{clash, none-is-not-some}
 use Rattle.leaf_model.proofs.Lists.{all-left, all-right, all-head, all-map}
 use Rattle.leaf_model.proofs.Keys.{lt-of-cutoff, rising-head, rising-right, rising-before}
@@ -60,26 +60,30 @@ last-is-below-cutoff x xs (n ∷ ns) u o a c e =
 
 -- ---- all leaves
 
+abbrev pub LeafRight : ℕ → Leaf → Type 0
+LeafRight size l = BodyRight size l × BoundsRight l
+
 pub leaves-are-good : {size : ℕ} (s : List ℕ) {c : Option (List ℕ)} (m : Bool) {ls : List (List Record)} {left : List Record} → Sized size c left ls
     → Rising (joined ls ++ left) → All (AtOrAbove s) (joined ls ++ left) → All (BelowCutoff c) (joined ls ++ left)
-    → All (LeafGood size) (withSeparators s c m ls left)
+    → All (LeafRight size) (withSeparators s c m ls left)
 leaves-are-good s m sized[] u f a = nil
 leaves-are-good s m (sized∷ {l = []} z h) u f a = clash (z .some-record) refl
 leaves-are-good s {c} m (sized∷ {left = left} {l = x ∷ xs} {ls = ls} z h) u f a =
     let u′ = rw (append-assoc (x ∷ xs) (joined ls) left) at u in
     let f′ = rw (append-assoc (x ∷ xs) (joined ls) left) at f in
     let a′ = rw (append-assoc (x ∷ xs) (joined ls) left) at a in
-    cons (record {
-      some-record = refl;
-      fits = z .fits;
-      enough = λ d e. z .enough;
-      first = all-left (x ∷ xs) (joined ls ++ left) f′;
-      last = last-is-below-cutoff x xs (joined ls ++ left) u′ c (all-left (x ∷ xs) (joined ls ++ left) a′);
-    }) (leaves-are-good (nextSeparator s (x ∷ xs) (joined ls ++ left)) m h (rising-right (x ∷ xs) (joined ls ++ left) u′)
+    cons (
+      record { most = z .fits; least = λ d e. z .enough },
+      record {
+        some-record = refl;
+        first = all-left (x ∷ xs) (joined ls ++ left) f′;
+        last = last-is-below-cutoff x xs (joined ls ++ left) u′ c (all-left (x ∷ xs) (joined ls ++ left) a′);
+      },
+    ) (leaves-are-good (nextSeparator s (x ∷ xs) (joined ls ++ left)) m h (rising-right (x ∷ xs) (joined ls ++ left) u′)
     (next-is-above-its-separator s x xs (joined ls ++ left) u′) (all-right (x ∷ xs) (joined ls ++ left) a′))
 leaves-are-good s m (sized-last {l = []} e z) u f a = clash e refl
 leaves-are-good s m (sized-last {l = x ∷ xs} e z) u f a =
-    cons (record { some-record = refl; fits = z; enough = λ d q. none-is-not-some q; first = simp append-nil at f; last = λ d q. none-is-not-some q }) nil
+    cons (record { most = z; least = λ d q. none-is-not-some q }, record { some-record = refl; first = simp append-nil at f; last = λ d q. none-is-not-some q }) nil
 
 pub kept-records-are-above-their-separator : {size : ℕ} (s : List ℕ) {c : Option (List ℕ)} {ls : List (List Record)} {left : List Record} → Sized size c left ls
     → Rising (joined ls ++ left) → All (AtOrAbove s) (joined ls ++ left) → All (AtOrAbove (separatorAfter s ls left)) left

@@ -9,6 +9,7 @@ use Rattle.leaf_model.specs.Work.{Base, Call, Ingest, Digest, NextBase, 
 use Rattle.leaf_model.specs.Tally.{Run, Try, taken, step, steps, opened, goodOpening}
 use Rattle.leaf_model.specs.Claim.{RecordsClaim}
 use Rattle.leaf_model.proofs.Tests.{and-right}
+use Rattle.leaf_model.proofs.Lists.{all-map}
 use Rattle.leaf_model.proofs.Separators.{linked-leaf-ends-where-the-next-starts}
 use Rattle.leaf_model.proofs.Invariant.{Invariant, ingest-keeps-the-invariant, digest-keeps-the-invariant}
 use Rattle.leaf_model.proofs.Bases.{next-base-keeps-the-invariant, cutoff-removal-keeps-the-invariant, opening-has-the-invariant}
@@ -19,7 +20,13 @@ module _ (size : ℕ) where
 
   pub claim-follows-from-the-invariant : (s : Run) → RunInvariant s → RecordsClaim size s
   claim-follows-from-the-invariant s h =
-      record { tally = h .tally; rising = h .rising; leaves = h .leaves; linked = λ xs ys x y e. linked-leaf-ends-where-the-next-starts xs ys x y (rw e at (h .links)) }
+      record {
+        tally = h .tally;
+        rising = h .rising;
+        bodies = all-map (λ l g. g .0) (h .leaves);
+        bounds = all-map (λ l g. g .1) (h .leaves);
+        linked = λ xs ys x y e. linked-leaf-ends-where-the-next-starts xs ys x y (rw e at (h .links));
+      }
 
   module _ (p : PageSize size) where
     accepted-call-keeps-the-invariant : (s : Run) (c : Call) → RunInvariant s → allowed size (s .work) c ≡ true → RunInvariant (taken size s c)

@@ -23,19 +23,26 @@ Le a b = num a ≤ num b
 abbrev pub recordsOf : List Leaf → List Record
 recordsOf ls = joined (map (λ l. l .records) ls)
 
--- what is due of each leaf that was given out
-pub record LeafGood (size : ℕ) (l : Leaf) : Type 0 where
+-- ---- what is due of each leaf that was given out
+
+-- "a leaf's body is at most 4,094, at least 2,047 unless it has no cutoff"
+pub record BodyRight (size : ℕ) (l : Leaf) : Type 0 where
+  pub most : body (l .records) ≤ bodyLimit size
+  pub least : (c : List ℕ) → l .cutoff ≡ some c → mergeBelow size ≤ body (l .records)
+
+-- "its separator is at or below its first key, its cutoff above its last"
+pub record BoundsRight (l : Leaf) : Type 0 where
   pub some-record : nonempty (l .records) ≡ true
-  pub fits : body (l .records) ≤ bodyLimit size
-  pub enough : (c : List ℕ) → l .cutoff ≡ some c → mergeBelow size ≤ body (l .records)
-  -- the separator is at or below each key; the cutoff, where there is one, above the last
   pub first : All (λ r. Le (l .separator) (r .key)) (l .records)
   pub last : (c : List ℕ) → l .cutoff ≡ some c → Lt (lastKey (l .records)) c
+
+-- ---- the claim
 
 pub record RecordsClaim (size : ℕ) (s : Run) : Type 0 where
   -- leaves given out and pending records are the tally, in order
   pub tally : recordsOf (s .leaves) ++ pending (s .work) ≡ s .tally
   pub rising : Rising (s .tally)
-  pub leaves : All (LeafGood size) (s .leaves)
+  pub bodies : All (BodyRight size) (s .leaves)
+  pub bounds : All BoundsRight (s .leaves)
   -- where a linked leaf ends, the next one starts
   pub linked : (xs ys : List Leaf) (x y : Leaf) → s .leaves ≡ xs ++ (x ∷ y ∷ ys) → x .linked ≡ true → x .cutoff ≡ some (y .separator)
