@@ -11,7 +11,8 @@ use Rattle.leaf_node.specs.Page.{records}
 use Rattle.leaf_node.specs.Good.{pageVerdict}
 use Rattle.leaf_model.specs.Work.{belowCutoff}
 use Rattle.leaf_work.specs.Tests.{keyIf}
-use Rattle.leaf_work.specs.Verdict.{unless, first, keysWithin, baseVerdict, keysVerdict}
+use Rattle.leaf_work.specs.Sound.{keysWithin}
+use Rattle.leaf_work.specs.Verdict.{unless, first, baseVerdict, keysVerdict}
 
 pub first-refused : (v w : ℕ) → (v ≡ 0 → ⊥) → first v w ≡ v
 first-refused v w h = rw (ne-eqb v 0 h, first)

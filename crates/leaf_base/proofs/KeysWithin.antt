@@ -15,7 +15,7 @@ use Rattle.leaf_node.specs.Steps.{Sorted}
 use Rattle.leaf_node.proofs.Searches.{rise-on}
 use Rattle.leaf_model.specs.Work.{belowCutoff}
 use Rattle.leaf_work.specs.Tests.{every}
-use Rattle.leaf_work.specs.Verdict.{keysWithin}
+use Rattle.leaf_work.specs.Sound.{keysWithin}
 
 -- ---- a test of f i, f (i + 1) and so on
 

@@ -13,7 +13,8 @@ ghost use Rattle.leaf_model.specs.Work.{belowCutoff};
 ghost use Rattle.leaf_work.specs.Tests.{keyIf};
 ghost use Rattle.leaf_work.specs.Lent.{roomRight};
 ghost use Rattle.leaf_work.specs.Flat.{listOf};
-ghost use Rattle.leaf_work.specs.Verdict.{keysWithin, baseVerdict, keysVerdict};
+ghost use Rattle.leaf_work.specs.Sound.{keysWithin};
+ghost use Rattle.leaf_work.specs.Verdict.{baseVerdict, keysVerdict};
 
 // The most entries and store bytes that a call takes.
 pub const MOST_ENTRIES: usize = 4096;

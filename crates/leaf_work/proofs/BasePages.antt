@@ -20,7 +20,8 @@ use Rattle.leaf_node.proofs.RoundTrips.{records-of-a-good-page-are-proper, body
 use Rattle.leaf_model.specs.Work.{belowCutoff, withinBounds, goodBase}
 use Rattle.leaf_model.proofs.Tests.{and-left, and-right}
 use Rattle.leaf_model.proofs.Bases.{rising-test}
-use Rattle.leaf_work.specs.Verdict.{unless, keysWithin, baseVerdict, keysVerdict}
+use Rattle.leaf_work.specs.Sound.{keysWithin}
+use Rattle.leaf_work.specs.Verdict.{unless, baseVerdict, keysVerdict}
 use Rattle.leaf_work.proofs.Tests.{and-both, passed, first-passed, first-zero, every-all}
 
 within-test : (size : ℕ) (s : List ℕ) (c : Option (List ℕ)) {xs : List Record} → All (λ r. (not (ltKey (r .key) s) && belowCutoff c (r .key)) ≡ true) xs

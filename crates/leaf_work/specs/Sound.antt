@@ -1,5 +1,6 @@
 -- "Work is sound when all of this holds": document 01, "Room and soundness", one test for each clause. `page` is the page as the work regards it.
 use mathlib.Core.Bool.{Bool, true, false, not, _&&_, _||_}
+use mathlib.Core.Option.{Option}
 use mathlib.Core.List.{List, [], _∷_}
 use Prim.Native.Nat.{ℕ}
 use lib.Dec.{eqb, leb, ltb}
@@ -58,6 +59,10 @@ someInsert [] = false
 someInsert (e ∷ es) = elim (anInsert e) [ true ↦ true | false ↦ someInsert es ]
 
 -- ---- keys
+
+-- each record's key is at or above a separator and below a cutoff, where there is one
+abbrev pub keysWithin : List ℕ → Option (List ℕ) → List Record → Bool
+keysWithin separator cutoff rs = every (λ r. not (ltKey (r .key) separator) && belowCutoff cutoff (r .key)) rs
 
 -- No. 13 lets the key in: it isn't below the floor, and is above the last key taken
 abbrev pub letsIn : Work → List ℕ → Bool
@@ -141,7 +146,7 @@ module _ (size : ℕ) (w : Work) (list : List Entry) (store page : List ℕ) whe
 
   -- "every pending key is at or above the current separator and below the cutoff"
   abbrev pub bounded : Bool
-  bounded = every (λ r. not (ltKey (r .key) (separatorOf w)) && belowCutoff (cutoffOf w) (r .key)) (pendingOf w list store page)
+  bounded = keysWithin (separatorOf w) (cutoffOf w) (pendingOf w list store page)
 
   -- "an override comes with listed inserts"
   abbrev pub overrideRight : Bool

@@ -14,9 +14,9 @@ use Rattle.leaf_node.specs.Good.{pageVerdict}
 use Rattle.leaf_model.specs.Work.{Change, belowCutoff, changeFits}
 use Rattle.leaf_work.specs.declared.Work.{Work}
 use Rattle.leaf_work.specs.declared.Entry.{Entry}
-use Rattle.leaf_work.specs.Tests.{every, oneOf, isSet, keyIf}
+use Rattle.leaf_work.specs.Tests.{oneOf, isSet, keyIf}
 use Rattle.leaf_work.specs.Lent.{roomRight, isOpen, isWaiting, cutoffOf, readsBase, regarded}
-use Rattle.leaf_work.specs.Sound.{sound, letsIn}
+use Rattle.leaf_work.specs.Sound.{keysWithin, sound, letsIn}
 use Rattle.leaf_work.specs.TakingUp.{countAfter, bytesAfter, restAfter}
 
 -- one row of the table: n, unless the test holds; then what the later rows say
@@ -29,9 +29,6 @@ abbrev pub first : ℕ → ℕ → ℕ
 first v later = elim (eqb v accepted) [ true ↦ later | false ↦ v ]
 
 -- ---- the page, Nos. 1 to 6
-
-abbrev pub keysWithin : List ℕ → Option (List ℕ) → List Record → Bool
-keysWithin separator cutoff rs = every (λ r. not (ltKey (r .key) separator) && belowCutoff cutoff (r .key)) rs
 
 -- No. 6 of an opening and a next base: "cutoff not above separator, or base key outside them"
 unfoldable pub baseVerdict : ℕ → List ℕ → List ℕ → Option (List ℕ) → ℕ
