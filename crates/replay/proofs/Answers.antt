@@ -6,25 +6,26 @@ use Prim.Native.Nat.{ℕ, _*_, _≤_, _<_}
 use lib.Dec.{eqb}
 use borrow.Author.Tests.{le-leb, lt-leb}
 use lib.ListN.{length, getD, take, drop}
+use Rattle.leaf_node.specs.Page.{word}
 use Rattle.leaf_node.specs.Build.{put}
 use Rattle.leaf_flat.specs.declared.LeafIngested.{LeafIngested}
 use Rattle.leaf_flat.specs.declared.LeafDigested.{LeafDigested}
 use Rattle.leaf_work.specs.Tests.{every}
-use Rattle.replay.specs.Parts.{numberAt, hasAt, hasPart, isHeld}
+use Rattle.replay.specs.Parts.{hasAt, hasPart, isHeld}
 use Rattle.replay.specs.declared.tally.Tally.{Tally}
 use Rattle.replay.specs.Counts.{Counted}
 use Rattle.replay.specs.Answers.{pageLent, sameReport, sameDigest, onlyGiven, sameLeaf}
 
-module _ (v : List ℕ) (m n : ℕ) (e : m ≡ numberAt v 73) where
-  pub the-report-decides : n ≡ numberAt v 75 → (after : LeafIngested) (a b : ℕ) → a ≡ getD v 71 0 → b ≡ getD v 72 0
+module _ (v : List ℕ) (m n : ℕ) (e : m ≡ word v 73) where
+  pub the-report-decides : n ≡ word v 75 → (after : LeafIngested) (a b : ℕ) → a ≡ getD v 71 0 → b ≡ getD v 72 0
       → ((eqb (after .refusal) a && eqb (after .reported) b) && (eqb (after .offset) m && eqb (after .len) n)) ≡ sameReport v after
   the-report-decides f after a b g h = rw (e, f, g, h)
 
-  pub the-rest-is-held : n ≡ numberAt v 75 → (area tickets : List ℕ) (a b : Bool) → a ≡ every isHeld (drop (4096 * m) area) → b ≡ every isHeld (drop n tickets)
+  pub the-rest-is-held : n ≡ word v 75 → (area tickets : List ℕ) (a b : Bool) → a ≡ every isHeld (drop (4096 * m) area) → b ≡ every isHeld (drop n tickets)
       → (a && b) ≡ onlyGiven v area tickets
   the-rest-is-held f area tickets a b g h = rw (g, h, e, f)
 
-pub the-digest-decides : (v : List ℕ) (m : ℕ) → m ≡ numberAt v 73 → (after : LeafDigested) (a b : ℕ) → a ≡ getD v 71 0 → b ≡ getD v 72 0 → (c : Bool)
+pub the-digest-decides : (v : List ℕ) (m : ℕ) → m ≡ word v 73 → (after : LeafDigested) (a b : ℕ) → a ≡ getD v 71 0 → b ≡ getD v 72 0 → (c : Bool)
     → c ≡ hasAt v 77 (after .cutoff) → ((eqb (after .refusal) a && eqb (after .waiting) b) && (eqb (after .leaves) m && c)) ≡ sameDigest v after
 the-digest-decides v m e after a b g h c q = rw (e, g, h, q)
 
@@ -39,6 +40,6 @@ module _ (v page : List ℕ) where
   the-page-is-lent h k p e = rw (le-leb 4205 (length v) h, le-leb 4096 (length page) k) e
 
 -- the page and the ticket of a leaf
-pub the-leaf-is-counted : (v area tickets : List ℕ) (leaf ticket n : ℕ) (a b : Bool) (before after : Tally) → n ≡ numberAt v 67 → a ≡ hasPart v 109 area leaf 4096
+pub the-leaf-is-counted : (v area tickets : List ℕ) (leaf ticket n : ℕ) (a b : Bool) (before after : Tally) → n ≡ word v 67 → a ≡ hasPart v 109 area leaf 4096
     → b ≡ hasPart v 1 tickets ticket n → Counted (a && b) before after → Counted (sameLeaf v area leaf tickets ticket) before after
 the-leaf-is-counted v area tickets leaf ticket n a b before after e f g c = rw (← e, ← f, ← g) c

@@ -4,11 +4,12 @@ use mathlib.Core.List.{List}
 use Prim.Native.Nat.{ℕ, _*_}
 use lib.Dec.{leb, eqb}
 use lib.ListN.{length, getD, take, drop}
+use Rattle.leaf_node.specs.Page.{word}
 use Rattle.leaf_node.specs.Build.{put}
 use Rattle.leaf_flat.specs.declared.LeafIngested.{LeafIngested}
 use Rattle.leaf_flat.specs.declared.LeafDigested.{LeafDigested}
 use Rattle.leaf_work.specs.Tests.{every}
-use Rattle.replay.specs.Parts.{numberAt, hasAt, hasPart, isHeld}
+use Rattle.replay.specs.Parts.{hasAt, hasPart, isHeld}
 
 -- a page: the lent one's first bytes are the record's, where both are long enough
 abbrev pub pageLent : List ℕ → List ℕ → List ℕ
@@ -17,17 +18,17 @@ pageLent v page = cond (leb 4205 (length v) && leb 4096 (length page)) (put page
 -- an ingest: refusal, and the cell that it reports
 abbrev pub sameReport : List ℕ → LeafIngested → Bool
 sameReport v after =
-    (eqb (after .refusal) (getD v 71 0) && eqb (after .reported) (getD v 72 0)) && (eqb (after .offset) (numberAt v 73) && eqb (after .len) (numberAt v 75))
+    (eqb (after .refusal) (getD v 71 0) && eqb (after .reported) (getD v 72 0)) && (eqb (after .offset) (word v 73) && eqb (after .len) (word v 75))
 
 -- a digest: refusal, how many leaves, and the cutoff for which it waits
 abbrev pub sameDigest : List ℕ → LeafDigested → Bool
 sameDigest v after =
-    (eqb (after .refusal) (getD v 71 0) && eqb (after .waiting) (getD v 72 0)) && (eqb (after .leaves) (numberAt v 73) && hasAt v 77 (after .cutoff))
+    (eqb (after .refusal) (getD v 71 0) && eqb (after .waiting) (getD v 72 0)) && (eqb (after .leaves) (word v 73) && hasAt v 77 (after .cutoff))
 
 -- the bytes of area and tickets behind the leaves and tickets that are due hold what they held
 abbrev pub onlyGiven : List ℕ → List ℕ → List ℕ → Bool
-onlyGiven v area tickets = every isHeld (drop (4096 * numberAt v 73) area) && every isHeld (drop (numberAt v 75) tickets)
+onlyGiven v area tickets = every isHeld (drop (4096 * word v 73) area) && every isHeld (drop (word v 75) tickets)
 
 -- a leaf that begins there: its page, and its ticket
 abbrev pub sameLeaf : List ℕ → List ℕ → ℕ → List ℕ → ℕ → Bool
-sameLeaf v area leaf tickets ticket = hasPart v 109 area leaf 4096 && hasPart v 1 tickets ticket (numberAt v 67)
+sameLeaf v area leaf tickets ticket = hasPart v 109 area leaf 4096 && hasPart v 1 tickets ticket (word v 67)

@@ -1,18 +1,14 @@
 -- Parts of a record.
 use mathlib.Core.Bool.{Bool, cond, _&&_}
 use mathlib.Core.List.{List}
-use Prim.Native.Nat.{ℕ, _+_, _*_}
+use Prim.Native.Nat.{ℕ, _+_}
 use lib.Dec.{leb, eqb}
-use lib.ListN.{length, getD, take, drop, replicate}
+use lib.ListN.{length, take, drop, replicate}
 use Rattle.leaf_work.specs.Tests.{sameBytes}
 
 -- the 32 bytes from `at` on, zeros where the record ends before
 unfoldable pub keyFrom : List ℕ → ℕ → List ℕ
 keyFrom s at = cond (leb (at + 32) (length s)) (take 32 (drop at s)) (replicate 32 0)
-
--- the number of two bytes, low byte first; bytes behind the record's end are zero
-abbrev pub numberAt : List ℕ → ℕ → ℕ
-numberAt s at = getD s at 0 + 256 * getD s (at + 1) 0
 
 -- the record has these bytes from `at` on
 unfoldable pub hasAt : List ℕ → ℕ → List ℕ → Bool

@@ -2,8 +2,9 @@
 ghost use mathlib.Core.Path.{_≡_};
 ghost use Prim.Native.Nat.{_<_};
 ghost use lib.ListN.{length, getD, drop, replicate};
+ghost use Rattle.leaf_node.specs.Page.{word};
 ghost use Rattle.leaf_work.specs.Tests.{every, sameBytes};
-ghost use Rattle.replay.specs.Parts.{keyFrom, numberAt, hasAt, hasPart, isHeld};
+ghost use Rattle.replay.specs.Parts.{keyFrom, hasAt, hasPart, isHeld};
 
 pub(crate) fn byte(s: &[u8], at: usize) -> u8
     ensures { λ r. ⌜ r ≡ getD (now (s .entry)) at 0 ⌝ }
@@ -20,7 +21,7 @@ fn wide(x: u8) -> usize
 
 // A number of two bytes, low byte first.
 pub(crate) fn number(s: &[u8], at: usize) -> usize
-    ensures { λ r. ⌜ r ≡ numberAt (now (s .entry)) at ⌝ }
+    ensures { λ r. ⌜ r ≡ word (now (s .entry)) at ⌝ }
     ensures { λ r. ⌜ r < 65536 ⌝ }
 {
     if at < s.len() {

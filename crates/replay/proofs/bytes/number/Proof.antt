@@ -1,5 +1,6 @@
 -- `replay::bytes::number` meets its contract.
 -- Assumes nothing.
+use Rattle.leaf_node.specs.Page.{word}
 use Rattle.replay.proofs.Laws.{number-past-the-end}
 use borrow.Author.Needs.{needs}
 use Rattle.replay.proofs.bytes.number.Statement.{statement}
@@ -27,9 +28,11 @@ add-result : tie.Need-add-result
 add-result c = search needs
 
 returns : tie.Need-returns
+unfolding word
 returns c = search needs
 
 returns-2 : tie.Need-returns-2
+unfolding word
 returns-2 c = search (number-past-the-end, needs)
 
 pub number-spec : {M : Type 1} → statement M
