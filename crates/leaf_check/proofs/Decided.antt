@@ -28,9 +28,9 @@ use Rattle.leaf_model.proofs.Keys.{test-of-le}
 use Rattle.leaf_work.specs.declared.Work.{Work}
 use Rattle.leaf_work.specs.declared.Entry.{Entry}
 use Rattle.leaf_work.specs.Tests.{every, isZero, isSet, bit}
-use Rattle.leaf_work.specs.Lent.{cutoffOf, lastOf, separatorOf}
+use Rattle.leaf_work.specs.Lent.{cutoffOf, lastOf, separatorOf, anInsert}
 use Rattle.leaf_work.specs.Pending.{listedOf, pendingOf}
-use Rattle.leaf_work.specs.Sound.{anInsert, someInsert, letsIn, pastAll, isOperation, isBlank, placed, knownTurn, knownFlags, lastBelow, cutoffRight, floorAbove, floorAtTurn, absentZero, roomy, risen, restAbove, gauged, bounded, overrideRight, waitingRight, doneRight, sound}
+use Rattle.leaf_work.specs.Sound.{someInsert, letsIn, pastAll, isOperation, isBlank, placed, knownTurn, knownFlags, lastBelow, cutoffRight, floorAbove, floorAtTurn, absentZero, roomy, risen, restAbove, gauged, bounded, overrideRight, waitingRight, doneRight, sound}
 use Rattle.leaf_work.proofs.Tests.{one-test, and-both, every-all, all-every}
 use Rattle.leaf_work.proofs.Operations.{chunk-held, total-append}
 use Rattle.leaf_work.proofs.Laid.{pending-parts}

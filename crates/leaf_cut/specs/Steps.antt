@@ -4,8 +4,10 @@ use mathlib.Core.Bool.{true, false}
 use mathlib.Core.List.{List, []}
 use Prim.Native.Nat.{ℕ, _+_, _*_, _≤_, _<_}
 use lib.ListN.{length, getD}
+use Rattle.leaf_node.specs.Limits.{mostPageBytes}
 use Rattle.leaf_node.specs.Page.{count}
 use Rattle.leaf_node.specs.Steps.{Laid}
+use Rattle.leaf_work.specs.Lent.{mostStoreBytes}
 use Rattle.leaf_work.specs.Flat.{entryOf}
 use Rattle.leaf_work.specs.Ready.{EntryIn}
 use Rattle.leaf_cut.specs.declared.Gauge.{Gauge}
@@ -18,7 +20,7 @@ use Rattle.leaf_cut.specs.Sizes.{cutSizes, rowSizes, indexOf, sizesFrom,
 -- a gauge of what a list and a store have room for
 pub record Modest (g : Gauge) : Type 0 where
   pub few : g .count ≤ 65536
-  pub short : g .bytes ≤ 65536
+  pub short : g .bytes ≤ mostStoreBytes
 
 -- the page has n records, and the base's rest begins at `low`; a page with records is a good one
 pub record Rest (page : List ℕ) (n low : ℕ) : Type 0 where
@@ -26,7 +28,7 @@ pub record Rest (page : List ℕ) (n low : ℕ) : Type 0 where
   pub low-in : low ≤ n
   pub laid : 0 < n → Laid page n
   pub few : n ≤ 32767
-  pub short : length page ≤ 32767
+  pub short : length page ≤ mostPageBytes
 
 -- a chunk has at least `skip` records
 pub record SkipIn (row : List ℕ) (skip : ℕ) : Type 0 where
@@ -35,23 +37,23 @@ pub record SkipIn (row : List ℕ) (skip : ℕ) : Type 0 where
 -- a piece that lies in store or base
 pub record PieceIn (page : List ℕ) (n : ℕ) (x : Piece) : Type 0 where
   pub order : x .from ≤ x .to
-  pub insert-in : x .insert ≡ true → x .to ≤ 65536
+  pub insert-in : x .insert ≡ true → x .to ≤ mostStoreBytes
   pub chunk-in : x .insert ≡ false → x .to ≤ n
   pub laid : 0 < n → Laid page n
   pub few : n ≤ 32767
-  pub short : length page ≤ 32767
+  pub short : length page ≤ mostPageBytes
 
 -- a leaf that is still below its target, which is no more than a page takes
 pub record Leaf (limit target : ℕ) (g : Gauge) : Type 0 where
   pub below : 34 * g .count + g .bytes < target
   pub reachable : target ≤ limit
-  pub small : limit ≤ 32767
+  pub small : limit ≤ mostPageBytes
 
 -- entries and base that can be walked
 pub record Spread (rows : List (List ℕ)) (page : List ℕ) (s : Span) : Type 0 where
   pub used-in : s .used ≤ length rows
   pub used-few : s .used ≤ 65536
-  pub entries : (i : ℕ) → i < s .used → EntryIn (s .low) 65536 (entryOf (getD rows i []) [])
+  pub entries : (i : ℕ) → i < s .used → EntryIn (s .low) mostStoreBytes (entryOf (getD rows i []) [])
   pub rest : Rest page (s .n) (s .low)
 
 -- a cursor at one of the records, or behind them all
@@ -87,4 +89,4 @@ pub record Kept (rows keys : List (List ℕ)) (store page : List ℕ) (s : Span)
   pub used-few : s .used ≤ 65536
   pub entries : (i : ℕ) → i < s .used → EntryIn (s .low) (length store) (entryOf (getD rows i []) (getD keys i []))
   pub rest : Rest page (s .n) (s .low)
-  pub store-short : length store ≤ 65536
+  pub store-short : length store ≤ mostStoreBytes

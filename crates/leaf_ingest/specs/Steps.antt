@@ -8,7 +8,7 @@ use Prim.Native.Nat.{ℕ, _+_, _-_, _≤_, _<_}
 use lib.Dec.{eqb, leb, ltb}
 use lib.ListN.{length, take, drop}
 use Rattle.refusal.specs.Refusal.{accepted, outOfTurn, longValue, keyTooLow, keyPastCutoff, listFull, storeFull}
-use Rattle.leaf_node.specs.Limits.{PageSize, valueLimit}
+use Rattle.leaf_node.specs.Limits.{mostPageBytes, PageSize, valueLimit}
 use Rattle.leaf_node.specs.Page.{count, start, lengthAt, flagAt, valuesSize}
 use Rattle.leaf_node.specs.Steps.{Laid, Sorted, Readable}
 use Rattle.leaf_node.specs.Build.{put}
@@ -16,7 +16,7 @@ use Rattle.leaf_model.specs.Work.{Change, belowCutoff, inserted}
 use Rattle.leaf_work.specs.declared.Work.{Work}
 use Rattle.leaf_work.specs.declared.Entry.{Entry}
 use Rattle.leaf_work.specs.Tests.{bit}
-use Rattle.leaf_work.specs.Lent.{insertAt, chunkOf, isOpen, cutoffOf}
+use Rattle.leaf_work.specs.Lent.{insertAt, chunkOf, mostEntries, mostStoreBytes, isOpen, cutoffOf}
 use Rattle.leaf_work.specs.Flat.{listOf, rowOf, keysAfter}
 use Rattle.leaf_work.specs.Sound.{letsIn}
 use Rattle.leaf_work.specs.TakingUp.{valueOf, stop, drops, lowAfter}
@@ -38,7 +38,7 @@ pub record Base (w : Work) (page : List ℕ) (n : ℕ) : Type 0 where
   pub low-in : w .low ≤ n
   pub laid : 0 < n → Laid page n
   pub rising : 0 < n → Sorted page n
-  pub short : length page ≤ 32767
+  pub short : length page ≤ mostPageBytes
 
 -- records `low` up to `stop` are taken up, and the one at `stop` is dropped or not
 pub record KeptAt (page : List ℕ) (n low stop : ℕ) (dropped : Bool) (z : Kept) : Type 0 where
@@ -60,8 +60,8 @@ pub record Taken (w : Work) (page k : List ℕ) (z : Kept) : Type 0 where
   pub from : w .low ≤ z .stop
   pub to : z .stop ≤ z .low
   pub upto : z .low ≤ count page
-  pub taken-few : z .taken ≤ 32767
-  pub rest-few : z .rest ≤ 32767
+  pub taken-few : z .taken ≤ mostPageBytes
+  pub rest-few : z .rest ≤ mostPageBytes
   pub readable : z .dropped ≡ true → Readable page (z .stop)
 
 -- ---- the number
@@ -71,10 +71,10 @@ pub record Sizes (w : Work) (z : Kept) (added : ℕ) : Type 0 where
   pub from : w .low ≤ z .stop
   pub to : z .stop ≤ z .low
   pub few : z .low ≤ 32767
-  pub taken-few : z .taken ≤ 32767
-  pub rest-few : z .rest ≤ 32767
-  pub count-few : w .count ≤ 4096
-  pub bytes-few : w .bytes ≤ 65536
+  pub taken-few : z .taken ≤ mostPageBytes
+  pub rest-few : z .rest ≤ mostPageBytes
+  pub count-few : w .count ≤ mostEntries
+  pub bytes-few : w .bytes ≤ mostStoreBytes
   pub one : added ≤ 1
 
 -- Nos. 9 and 12 to 14, then `later`; the new value has `len` bytes
@@ -97,8 +97,8 @@ pub record Admits (size : ℕ) (w : Work) (page : List ℕ) : Type 0 where
   pub sized : PageSize size
   pub regardable : Regardable size page
   pub base : Base w page (count page)
-  pub count-few : w .count ≤ 4096
-  pub bytes-few : w .bytes ≤ 65536
+  pub count-few : w .count ≤ mostEntries
+  pub bytes-few : w .bytes ≤ mostStoreBytes
 
 -- how many records a change lists
 abbrev pub addedBy : taken.Change → ℕ
@@ -158,7 +158,7 @@ pub record Room (w : Work) (page : List ℕ) (z : Kept) (added len : ℕ) (rows 
   pub as-many : length rows ≡ length keys
   pub list-room : w .used + (z .stop - w .low) + added ≤ length rows
   pub store-room : w .filled + len ≤ length store
-  pub store-short : length store ≤ 65536
+  pub store-short : length store ≤ mostStoreBytes
 
 -- an accepted ingest
 pub record Stepped (w : Work) (page k : List ℕ) (z : Kept) (c : Option Change) (rows keys : List (List ℕ)) (store : List ℕ) (r : Ingested) (rows′ keys′ : List (List ℕ)) (store′ : List ℕ) : Type 0 where

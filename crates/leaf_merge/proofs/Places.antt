@@ -11,7 +11,8 @@ use borrow.Author.Tests.{eq-eqb, eqb-true}
 use Rattle.leaf_node.specs.Record.{Record, total}
 use Rattle.leaf_work.specs.declared.Entry.{Entry}
 use Rattle.leaf_work.specs.Flat.{entryOf, entriesOf}
-use Rattle.leaf_work.specs.Sound.{placed, anInsert}
+use Rattle.leaf_work.specs.Lent.{anInsert}
+use Rattle.leaf_work.specs.Sound.{placed}
 use Rattle.leaf_work.specs.Ready.{EntryIn}
 use Rattle.leaf_cut.specs.Sizes.{sizes, sum, rowSizes, listedSizes}
 use Rattle.leaf_cut.specs.declared.Span.{Span}

@@ -1,10 +1,14 @@
 -- The limits of a page size. Document 01 has their numbers for 4,096 bytes, named beside each; all follow from the size.
 use Prim.Native.Nat.{ℕ, _+_, _-_, _*_, _/_, _≤_}
 
+-- the largest page: an offset has 15 bits
+abbrev pub mostPageBytes : ℕ
+mostPageBytes = 32767
+
 -- the page sizes for which all of this is shown
 pub record PageSize (size : ℕ) : Type 0 where
   pub least : 98 ≤ size
-  pub most : size ≤ 32767
+  pub most : size ≤ mostPageBytes
 
 -- what a body may be at most: all but the two bytes of the count (4,094)
 unfoldable pub bodyLimit : ℕ → ℕ

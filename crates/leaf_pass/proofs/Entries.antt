@@ -19,7 +19,8 @@ use Rattle.leaf_model.specs.Work.{zeroKey}
 use Rattle.leaf_work.specs.declared.Entry.{Entry}
 use Rattle.leaf_work.specs.Tests.{sameBytes, isZero}
 use Rattle.leaf_work.specs.Flat.{entryOf}
-use Rattle.leaf_work.specs.Sound.{isFlag, isBlank, anInsert}
+use Rattle.leaf_work.specs.Lent.{anInsert}
+use Rattle.leaf_work.specs.Sound.{isFlag, isBlank}
 use Rattle.leaf_work.proofs.Tests.{same-bytes, same-bytes-are-equal}
 use Rattle.leaf_pass.specs.declared.Pass.{Pass}
 use Rattle.leaf_pass.specs.declared.Bounds.{Bounds}

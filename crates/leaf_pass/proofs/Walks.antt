@@ -20,9 +20,9 @@ use Rattle.leaf_model.proofs.Tests.{and-left, and-right}
 use Rattle.leaf_model.proofs.Lists.{all-append, all-right}
 use Rattle.leaf_work.specs.declared.Entry.{Entry}
 use Rattle.leaf_work.specs.Tests.{every, sameBytes, isZero, isSet, bit}
-use Rattle.leaf_work.specs.Lent.{insertAt, chunkOf}
+use Rattle.leaf_work.specs.Lent.{insertAt, chunkOf, anInsert}
 use Rattle.leaf_work.specs.Pending.{held, entryPlaces, placesOf, recordsHeld}
-use Rattle.leaf_work.specs.Sound.{isFlag, isBlank, anInsert, isInsert, isChunk, isOperation, placed}
+use Rattle.leaf_work.specs.Sound.{isFlag, isBlank, isInsert, isChunk, isOperation, placed}
 use Rattle.leaf_work.proofs.Tests.{and-both, bit-small, map-append}
 use Rattle.leaf_work.proofs.Operations.{chunk-held, total-append}
 use Rattle.leaf_work.proofs.Decoding.{Shape, insert, keep, placed-head, placed-upto, value-long}

@@ -7,12 +7,14 @@ use Prim.Native.Nat.{ℕ, _+_, _-_, _*_, _≤_, _<_}
 use lib.Dec.{eqb, leb, ltb}
 use lib.ListN.{length}
 use Rattle.bit_ops.specs.Key.{ltKey}
+use Rattle.leaf_node.specs.Limits.{mostPageBytes}
 use Rattle.leaf_node.specs.Page.{count, keyAt, valuesSize}
 use Rattle.leaf_node.specs.Steps.{Laid}
 use Rattle.leaf_model.specs.Work.{zeroKey}
 use Rattle.leaf_work.specs.declared.Entry.{Entry}
 use Rattle.leaf_work.specs.Tests.{sameBytes, isZero}
-use Rattle.leaf_work.specs.Sound.{isFlag, isBlank, anInsert}
+use Rattle.leaf_work.specs.Lent.{mostEntries, mostStoreBytes, anInsert}
+use Rattle.leaf_work.specs.Sound.{isFlag, isBlank}
 use Rattle.leaf_pass.specs.declared.Pass.{Pass}
 use Rattle.leaf_pass.specs.declared.Bounds.{Bounds}
 
@@ -24,9 +26,9 @@ pub record Seeing (b : Bounds) (page : List ℕ) (n : ℕ) : Type 0 where
   pub low-in : b .low ≤ n
   pub laid : 0 < n → Laid page n
   pub few : n ≤ 32767
-  pub short : length page ≤ 32767
-  pub used-few : b .used ≤ 4096
-  pub filled-few : b .filled ≤ 65536
+  pub short : length page ≤ mostPageBytes
+  pub used-few : b .used ≤ mostEntries
+  pub filled-few : b .filled ≤ mostStoreBytes
 
 -- nothing that the pass counts comes near the largest number
 pub record Small (b : Bounds) (z : Pass) : Type 0 where

@@ -14,9 +14,9 @@ use Rattle.leaf_work.specs.declared.Work.{Work}
 use Rattle.leaf_work.specs.declared.Entry.{Entry}
 use Rattle.leaf_model.specs.Work.{zeroKey}
 use Rattle.leaf_work.specs.Tests.{sameBytes, oneOf}
-use Rattle.leaf_work.specs.Lent.{separatorOf, readsBase, regarded, cutoffOf}
+use Rattle.leaf_work.specs.Lent.{separatorOf, readsBase, regarded, cutoffOf, anInsert}
 use Rattle.leaf_work.specs.Flat.{entryOf, rowOf}
-use Rattle.leaf_work.specs.Sound.{isBlank, anInsert}
+use Rattle.leaf_work.specs.Sound.{isBlank}
 use Rattle.leaf_work.specs.Verdict.{keysVerdict}
 use Rattle.leaf_pass.specs.declared.Pass.{Pass}
 use Rattle.leaf_pass.specs.declared.Bounds.{Bounds}

@@ -11,7 +11,8 @@ use borrow.Author.Tests.{eq-eqb, ne-eqb, lt-ltb, le-ltb, ltb-true, ltb-false, no
 use Rattle.leaf_model.proofs.Tests.{and-left, and-right}
 use Rattle.leaf_work.specs.declared.Entry.{Entry}
 use Rattle.leaf_work.specs.Tests.{every, oneOf, isZero}
-use Rattle.leaf_work.specs.Sound.{isBlank, anInsert}
+use Rattle.leaf_work.specs.Lent.{anInsert}
+use Rattle.leaf_work.specs.Sound.{isBlank}
 use Rattle.leaf_pass.specs.declared.Pass.{Pass}
 use Rattle.leaf_pass.specs.declared.Bounds.{Bounds}
 use Rattle.leaf_pass.specs.Pass.{Small, insertRight, chunkRight, wrong, withInsert, withChunk, insertPassed, chunkPassed, blankPassed, passedBy, passed, passedAll}

@@ -4,8 +4,7 @@ use mathlib.Core.List.{List, [], _∷_}
 use Prim.Native.Nat.{ℕ, _-_}
 use lib.Dec.{ltb}
 use Rattle.leaf_work.specs.declared.Entry.{Entry}
-use Rattle.leaf_work.specs.Lent.{blank}
-use Rattle.leaf_work.specs.Sound.{anInsert}
+use Rattle.leaf_work.specs.Lent.{blank, anInsert}
 use Rattle.leaf_passed.specs.declared.Seek.{Seek}
 
 -- an insert is one record, a chunk as many as it names

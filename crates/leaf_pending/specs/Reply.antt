@@ -26,4 +26,4 @@ twinOut (Found x) = placeOut x
 -- "handed back as a part of whichever of the two holds it, store or base page"; "the part is empty when refused": the bytes that a twin names
 unfoldable pub twinPart : List ℕ → List ℕ → TwinPlace → List ℕ
 twinPart store page t =
-    cond (eqb (t .holder) 1) (take (t .len) (drop (t .offset) store)) (cond (eqb (t .holder) 2) (take (t .len) (drop (t .offset) page)) [])
+    cond (eqb (t .holder) (holderNumber Store)) (take (t .len) (drop (t .offset) store)) (cond (eqb (t .holder) (holderNumber Base)) (take (t .len) (drop (t .offset) page)) [])

@@ -10,8 +10,10 @@ use Rattle.leaf_node.specs.Steps.{Laid}
 use Rattle.leaf_work.specs.declared.Work.{Work}
 use Rattle.leaf_work.specs.declared.Entry.{Entry}
 use Rattle.leaf_work.specs.Lent.{blank}
+use Rattle.leaf_work.specs.Pending.{Store, Base}
 use Rattle.leaf_work.specs.Ready.{EntryIn}
 use Rattle.leaf_pending.specs.declared.TwinPlace.{TwinPlace}
+use Rattle.leaf_pending.specs.Reply.{holderNumber}
 
 -- "an insert .. or a chunk of the base": how many records the entry in a row has
 unfoldable pub rowRecords : List ℕ → ℕ
@@ -41,5 +43,5 @@ pub record Walk (w : Work) (list : List Entry) (page : List ℕ) : Type 0 where
 
 -- a twin whose place lies in its holder
 pub record TwinIn (t : TwinPlace) (store page : List ℕ) : Type 0 where
-  pub in-store : t .holder ≡ 1 → t .offset + t .len ≤ length store
-  pub in-base : t .holder ≡ 2 → t .offset + t .len ≤ length page
+  pub in-store : t .holder ≡ holderNumber Store → t .offset + t .len ≤ length store
+  pub in-base : t .holder ≡ holderNumber Base → t .offset + t .len ≤ length page

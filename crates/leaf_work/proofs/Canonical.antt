@@ -28,9 +28,9 @@ use Rattle.leaf_model.proofs.Bases.{rising-of-test}
 use Rattle.leaf_work.specs.declared.Work.{Work}
 use Rattle.leaf_work.specs.declared.Entry.{Entry}
 use Rattle.leaf_work.specs.Tests.{every, sameBytes, implies, isSet, keyIf, oneOf}
-use Rattle.leaf_work.specs.Lent.{turnNumber, isOpen, isWaiting, isDone, cutoffOf, overrideOf, lastOf, separatorOf, readsBase, regarded}
+use Rattle.leaf_work.specs.Lent.{turnNumber, isOpen, isWaiting, isDone, cutoffOf, overrideOf, lastOf, separatorOf, readsBase, regarded, anInsert}
 use Rattle.leaf_work.specs.Pending.{listedOf, restOf, pendingOf}
-use Rattle.leaf_work.specs.Sound.{isFlag, anInsert, letsIn, pastAll, sound}
+use Rattle.leaf_work.specs.Sound.{isFlag, letsIn, pastAll, sound}
 use Rattle.leaf_work.specs.Verdict.{keysVerdict, lentVerdict}
 use Rattle.leaf_work.proofs.Tests.{implied, first-zero, every-all, same-bytes-are-equal, key-is-there, no-key}
 use Rattle.leaf_work.proofs.Operations.{Op, Put, Keep, recordsOfOps, somePut}

@@ -15,8 +15,8 @@ use Rattle.leaf_model.specs.Work.{zeroKey}
 use Rattle.leaf_model.proofs.Tests.{and-left, and-right}
 use Rattle.leaf_work.specs.declared.Entry.{Entry}
 use Rattle.leaf_work.specs.Tests.{sameBytes, isZero, isSet, bit}
-use Rattle.leaf_work.specs.Lent.{blank, insertAt, chunkOf}
-use Rattle.leaf_work.specs.Sound.{isFlag, isBlank, anInsert, isInsert, liesInPassedPart, isChunk, isOperation, placed, someInsert}
+use Rattle.leaf_work.specs.Lent.{blank, insertAt, chunkOf, anInsert}
+use Rattle.leaf_work.specs.Sound.{isFlag, isBlank, isInsert, liesInPassedPart, isChunk, isOperation, placed, someInsert}
 use Rattle.leaf_work.proofs.Tests.{same-bytes-are-equal, set-bit, bit-of}
 use Rattle.leaf_work.proofs.Operations.{Op, Put, Keep, storedBytes, entriesOf, Within, somePut}
 

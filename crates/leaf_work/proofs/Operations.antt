@@ -14,9 +14,9 @@ use Rattle.leaf_node.specs.Fits.{All, nil, cons}
 use Rattle.leaf_node.proofs.Lengths.{length-run}
 use Rattle.leaf_work.specs.declared.Entry.{Entry}
 use Rattle.leaf_work.specs.Tests.{isSet, bit}
-use Rattle.leaf_work.specs.Lent.{insertAt, chunkOf}
+use Rattle.leaf_work.specs.Lent.{insertAt, chunkOf, anInsert}
 use Rattle.leaf_work.specs.Pending.{held, inBase, chunkPlaces, entryPlaces, placesOf, recordsHeld}
-use Rattle.leaf_work.specs.Sound.{isOperation, placed, anInsert, someInsert}
+use Rattle.leaf_work.specs.Sound.{isOperation, placed, someInsert}
 use Rattle.leaf_work.specs.Digest.{insertsOf}
 use Rattle.leaf_work.proofs.Tests.{map-append, set-bit, bit-small}
 

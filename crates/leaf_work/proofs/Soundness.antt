@@ -24,9 +24,9 @@ use Rattle.leaf_model.proofs.Invariant.{Invariant, AtTurn, DoneFacts, at-waitin
 use Rattle.leaf_work.specs.declared.Work.{Work}
 use Rattle.leaf_work.specs.declared.Entry.{Entry}
 use Rattle.leaf_work.specs.Tests.{every, isZero, isSet, keyIf}
-use Rattle.leaf_work.specs.Lent.{blank, turnNumber, isOpen, isWaiting, isDone, readsBase}
+use Rattle.leaf_work.specs.Lent.{blank, turnNumber, isOpen, isWaiting, isDone, readsBase, anInsert}
 use Rattle.leaf_work.specs.Pending.{listedOf, restOf, pendingOf}
-use Rattle.leaf_work.specs.Sound.{isBlank, isOperation, placed, anInsert, letsIn, pastAll, knownFlags, operations, stored, risen, listedFits, gauged, bounded, cutoffRight, overrideRight, waitingRight, doneRight, floorAbove, floorAtTurn, absentZero, sound}
+use Rattle.leaf_work.specs.Sound.{isBlank, isOperation, placed, letsIn, pastAll, knownFlags, operations, stored, risen, listedFits, gauged, bounded, cutoffRight, overrideRight, waitingRight, doneRight, floorAbove, floorAtTurn, absentZero, sound}
 use Rattle.leaf_work.proofs.Tests.{and-both, not-true, implies-if, all-every, all-replicate, same-bytes, key-is-there}
 use Rattle.leaf_work.proofs.Operations.{Op, ops-right, ops-placed, some-insert, all-inserts}
 use Rattle.leaf_work.proofs.Laid.{Laid, Kept, turnOf, waiting-turn, done-turn, waiting-is-not-open, an-ignored-page-has-no-records, list-length, store-length, used-entries, blank-entries, blank-bytes, listed-is, pending-parts, seesWork}

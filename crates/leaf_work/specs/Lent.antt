@@ -21,6 +21,10 @@ insertAt from to key flag = record { kind = 1; flag = flag; from = from; to = to
 abbrev pub chunkOf : ℕ → ℕ → ℕ → Entry
 chunkOf from to sum = record { kind = 2; flag = 0; from = from; to = to; sum = sum; key = zeroKey }
 
+-- any other used entry is taken for a chunk; soundness tests its kind
+abbrev pub anInsert : Entry → Bool
+anInsert e = eqb (e .kind) 1
+
 -- ---- the lengths of list and store
 
 abbrev pub mostEntries : ℕ
@@ -41,13 +45,13 @@ turnNumber Waiting = 2
 turnNumber Done = 3
 
 abbrev pub isOpen : Work → Bool
-isOpen w = eqb (w .turn) 1
+isOpen w = eqb (w .turn) (turnNumber Open)
 
 abbrev pub isWaiting : Work → Bool
-isWaiting w = eqb (w .turn) 2
+isWaiting w = eqb (w .turn) (turnNumber Waiting)
 
 abbrev pub isDone : Work → Bool
-isDone w = eqb (w .turn) 3
+isDone w = eqb (w .turn) (turnNumber Done)
 
 -- ---- the keys of the work record
 

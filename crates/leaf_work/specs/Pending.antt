@@ -3,13 +3,13 @@
 use mathlib.Core.Bool.{Bool, true, false}
 use mathlib.Core.List.{List, [], _∷_, _++_, map}
 use Prim.Native.Nat.{ℕ, _-_}
-use lib.Dec.{eqb}
 use lib.ListN.{take, drop}
 use Rattle.leaf_node.specs.Record.{Record}
 use Rattle.leaf_node.specs.Page.{count, start, lengthAt, flagAt, keyAt, run}
 use Rattle.leaf_work.specs.declared.Work.{Work}
 use Rattle.leaf_work.specs.declared.Entry.{Entry}
 use Rattle.leaf_work.specs.Tests.{isSet}
+use Rattle.leaf_work.specs.Lent.{anInsert}
 
 -- "The value of a pending record is handed back as a part of whichever of the two holds it, store or base page."
 pub data Holder : Type 0 where
@@ -49,7 +49,7 @@ insertPlace e = record { holder = Store; offset = e .from; size = e .to - e .fro
 -- an insert is one record, a chunk those of the base that it names
 unfoldable pub entryPlaces : List ℕ → Entry → List Place
 unfolding chunkPlaces
-entryPlaces page e = elim (eqb (e .kind) 1) [ true ↦ insertPlace e ∷ [] | false ↦ chunkPlaces page (e .from) (e .to) ]
+entryPlaces page e = elim (anInsert e) [ true ↦ insertPlace e ∷ [] | false ↦ chunkPlaces page (e .from) (e .to) ]
 
 abbrev pub placesOf : List ℕ → List Entry → List Place
 placesOf page [] = []

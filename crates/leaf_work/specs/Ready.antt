@@ -4,6 +4,7 @@ use mathlib.Core.Path.{_≡_}
 use mathlib.Core.List.{List}
 use Prim.Native.Nat.{ℕ, _+_, _-_, _≤_, _<_}
 use lib.ListN.{length, getD}
+use Rattle.leaf_node.specs.Limits.{mostPageBytes}
 use Rattle.leaf_node.specs.Page.{count, valuesSize}
 use Rattle.leaf_node.specs.Steps.{Laid, Sorted}
 use Rattle.leaf_work.specs.declared.Work.{Work}
@@ -32,4 +33,4 @@ pub record Ready (w : Work) (list : List Entry) (store page : List ℕ) : Type 0
   pub list-there : 0 < length list
   pub list-short : length list ≤ mostEntries
   pub store-short : length store ≤ mostStoreBytes
-  pub page-short : length page ≤ 32767
+  pub page-short : length page ≤ mostPageBytes

@@ -14,7 +14,7 @@ use Rattle.leaf_model.specs.Work.{zeroKey, aboveLast, belowCutoff, isRising}
 use Rattle.leaf_work.specs.declared.Work.{Work}
 use Rattle.leaf_work.specs.declared.Entry.{Entry}
 use Rattle.leaf_work.specs.Tests.{every, sameBytes, implies, isZero, isSet}
-use Rattle.leaf_work.specs.Lent.{isOpen, isWaiting, isDone, cutoffOf, lastOf, separatorOf, readsBase}
+use Rattle.leaf_work.specs.Lent.{anInsert, isOpen, isWaiting, isDone, cutoffOf, lastOf, separatorOf, readsBase}
 use Rattle.leaf_work.specs.Pending.{listedOf, restOf, pendingOf}
 
 -- ---- entries
@@ -26,9 +26,6 @@ isFlag n = leb n 1
 -- "unused entries .. are zero"
 abbrev pub isBlank : Entry → Bool
 isBlank e = isZero (e .kind) && (isZero (e .from) && (isZero (e .to) && (isZero (e .sum) && (sameBytes (e .key) zeroKey && isZero (e .flag)))))
-
-abbrev pub anInsert : Entry → Bool
-anInsert e = eqb (e .kind) 1
 
 -- "an insert with its place in the store"; "unused .. entry fields .. are zero"
 abbrev pub isInsert : Entry → Bool

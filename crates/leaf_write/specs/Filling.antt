@@ -5,6 +5,7 @@ use mathlib.Core.List.{List, []}
 use Prim.Native.Nat.{ℕ, _+_, _-_, _≤_, _<_}
 use lib.Dec.{eqb, leb, ltb}
 use lib.ListN.{length, getD, take, drop}
+use Rattle.leaf_node.specs.Limits.{mostPageBytes}
 use Rattle.leaf_node.specs.Record.{Record, total}
 use Rattle.leaf_node.specs.Page.{count, pointer, keyAt, recordsBetween}
 use Rattle.leaf_node.specs.Steps.{Laid}
@@ -78,4 +79,4 @@ pub record KeyThere (rows keys : List (List ℕ)) (page : List ℕ) (s : Span) (
   pub key-in : at .entry < s .used → at .entry < length keys
   pub chunk : at .entry < s .used → (getD (getD rows (at .entry) []) 0 0 ≡ 1 → ⊥) → pointer (getD (getD rows (at .entry) []) 2 0 + at .skip + 1) ≤ length page
   pub rest : s .used ≤ at .entry → pointer (s .low + at .skip + 1) ≤ length page
-  pub short : length page ≤ 32767
+  pub short : length page ≤ mostPageBytes
