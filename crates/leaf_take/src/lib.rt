@@ -60,7 +60,7 @@ pub fn change_of(put: u8, flag: u8) -> Change
 }
 
 // The reply in numbers.
-fn report_out(reply: Report) -> LeafReport
+pub fn report_out(reply: Report) -> LeafReport
     ensures { λ r. ⌜ r ≡ reportOut (replyOf reply) ⌝ }
 {
     match reply {

@@ -27,6 +27,8 @@ use Rattle.leaf_digest.specs.declared.Gave.the-variants as gave
 use Rattle.leaf_digest.specs.Reply.{replyOf}
 use Rattle.leaf_work.specs.Digest.{DigestRefused}
 use Rattle.leaf_within.specs.declared.DigestStep.{DigestStep}
+use Rattle.leaf_within.specs.declared.LeafGave.{LeafGave}
+use Rattle.leaf_within.specs.Reply.{gaveOut}
 use Rattle.leaf_within.specs.Within.{atMost, splitCount, keptRoom, roomNeeded, stepOf}
 
 module _ (a b : ℕ) where
@@ -101,14 +103,25 @@ module _ (entries : ℕ) where
     unfolding roomNeeded
     so-much-is-needed m k r e f h = (h .0 ∙ rw (f, e .0), omega (arith, h .1, e .1))
 
+-- ---- what a digest answers
+
+module _ (reply : Gave) (cutoff : List ℕ) where
+  pub a-refusal-has-its-number : (n : ℕ) → reply ≡ gave.Refused n → _≡_ {A = LeafGave} (record { refusal = n; waiting = 0; leaves = 0; cutoff = zeroKey }) (gaveOut (replyOf reply cutoff))
+  a-refusal-has-its-number n e = rw e
+
+  pub a-finished-digest-gave-its-leaves : (n : ℕ) → reply ≡ gave.Finished n → _≡_ {A = LeafGave} (record { refusal = 0; waiting = 0; leaves = n; cutoff = zeroKey }) (gaveOut (replyOf reply cutoff))
+  a-finished-digest-gave-its-leaves n e = rw e
+
+  pub a-waiting-digest-names-its-cutoff : (n : ℕ) → reply ≡ gave.Merge n → _≡_ {A = LeafGave} (record { refusal = 0; waiting = 1; leaves = n; cutoff = cutoff }) (gaveOut (replyOf reply cutoff))
+  a-waiting-digest-names-its-cutoff n e = rw e
+
 module _ (reply : Gave) (cutoff : List ℕ) (w : Work) (entries : ℕ) where
   pub a-refusal-gives-back-nothing : (n : ℕ) → reply ≡ gave.Refused n → (r : DigestStep) → r ≡ stepOf (DigestRefused n) w 0 → r ≡ stepOf (replyOf reply cutoff) w entries
   a-refusal-gives-back-nothing n e r q = rw (q, e)
 
-  pub a-finished-digest-gives-back-all : (n : ℕ) → reply ≡ gave.Finished n
-      → _≡_ {A = DigestStep} (record { reply = record { refusal = 0; waiting = 0; leaves = n; cutoff = zeroKey }; work = w; count = entries }) (stepOf (replyOf reply cutoff) w entries)
-  a-finished-digest-gives-back-all n e = rw e
+  module _ (said : LeafGave) (q : said ≡ gaveOut (replyOf reply cutoff)) where
+    pub a-finished-digest-gives-back-all : (n : ℕ) → reply ≡ gave.Finished n → _≡_ {A = DigestStep} (record { reply = said; work = w; count = entries }) (stepOf (replyOf reply cutoff) w entries)
+    a-finished-digest-gives-back-all n e = rw (q, e)
 
-  pub a-waiting-digest-gives-back-all : (n : ℕ) → reply ≡ gave.Merge n
-      → _≡_ {A = DigestStep} (record { reply = record { refusal = 0; waiting = 1; leaves = n; cutoff = cutoff }; work = w; count = entries }) (stepOf (replyOf reply cutoff) w entries)
-  a-waiting-digest-gives-back-all n e = rw e
+    pub a-waiting-digest-gives-back-all : (n : ℕ) → reply ≡ gave.Merge n → _≡_ {A = DigestStep} (record { reply = said; work = w; count = entries }) (stepOf (replyOf reply cutoff) w entries)
+    a-waiting-digest-gives-back-all n e = rw (q, e)

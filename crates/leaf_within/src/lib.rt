@@ -145,29 +145,46 @@ fn refused_digest(work: Work, number: u8) -> DigestStep
     }
 }
 
+// The reply in numbers.
+pub fn gave_out(reply: Gave, cutoff: [u8; 32]) -> LeafGave
+    ensures { λ r. ⌜ r ≡ gaveOut (gave.replyOf reply cutoff) ⌝ }
+{
+    match reply {
+        Gave::Refused(n) => LeafGave {
+            refusal: n,
+            waiting: 0,
+            leaves: 0,
+            cutoff: [0u8; 32],
+        },
+        Gave::Finished(leaves) => LeafGave {
+            refusal: 0,
+            waiting: 0,
+            leaves: leaves,
+            cutoff: [0u8; 32],
+        },
+        Gave::Merge(leaves) => LeafGave {
+            refusal: 0,
+            waiting: 1,
+            leaves: leaves,
+            cutoff: cutoff,
+        },
+    }
+}
+
 // An accepted one gives back the first `count`.
 fn step_of(reply: Gave, cutoff: [u8; 32], work: Work, count: usize) -> DigestStep
     ensures { λ r. ⌜ r ≡ stepOf (gave.replyOf reply cutoff) work count ⌝ }
 {
+    let said = gave_out(reply, cutoff);
     match reply {
         Gave::Refused(n) => refused_digest(work, n),
         Gave::Finished(leaves) => DigestStep {
-            reply: LeafGave {
-                refusal: 0,
-                waiting: 0,
-                leaves: leaves,
-                cutoff: [0u8; 32],
-            },
+            reply: said,
             work: work,
             count: count,
         },
         Gave::Merge(leaves) => DigestStep {
-            reply: LeafGave {
-                refusal: 0,
-                waiting: 1,
-                leaves: leaves,
-                cutoff: cutoff,
-            },
+            reply: said,
             work: work,
             count: count,
         },

@@ -8,8 +8,8 @@ use borrow.Author.Tests.{le-leb, lt-leb}
 use lib.ListN.{length, getD, take, drop}
 use Rattle.leaf_node.specs.Page.{word}
 use Rattle.leaf_node.specs.Build.{put}
-use Rattle.leaf_flat.specs.declared.LeafIngested.{LeafIngested}
-use Rattle.leaf_flat.specs.declared.LeafDigested.{LeafDigested}
+use Rattle.leaf_take.specs.declared.LeafReport.{LeafReport}
+use Rattle.leaf_within.specs.declared.LeafGave.{LeafGave}
 use Rattle.leaf_work.specs.Tests.{every}
 use Rattle.replay.specs.Parts.{hasAt, hasPart, isHeld}
 use Rattle.replay.specs.declared.tally.Tally.{Tally}
@@ -17,17 +17,17 @@ use Rattle.replay.specs.Counts.{Counted}
 use Rattle.replay.specs.Answers.{pageLent, sameReport, sameDigest, onlyGiven, sameLeaf}
 
 module _ (v : List ℕ) (m n : ℕ) (e : m ≡ word v 73) where
-  pub the-report-decides : n ≡ word v 75 → (after : LeafIngested) (a b : ℕ) → a ≡ getD v 71 0 → b ≡ getD v 72 0
-      → ((eqb (after .refusal) a && eqb (after .reported) b) && (eqb (after .offset) m && eqb (after .len) n)) ≡ sameReport v after
-  the-report-decides f after a b g h = rw (e, f, g, h)
+  pub the-report-decides : n ≡ word v 75 → (reply : LeafReport) (a b : ℕ) → a ≡ getD v 71 0 → b ≡ getD v 72 0
+      → ((eqb (reply .refusal) a && eqb (reply .reported) b) && (eqb (reply .offset) m && eqb (reply .len) n)) ≡ sameReport v reply
+  the-report-decides f reply a b g h = rw (e, f, g, h)
 
   pub the-rest-is-held : n ≡ word v 75 → (area tickets : List ℕ) (a b : Bool) → a ≡ every isHeld (drop (4096 * m) area) → b ≡ every isHeld (drop n tickets)
       → (a && b) ≡ onlyGiven v area tickets
   the-rest-is-held f area tickets a b g h = rw (g, h, e, f)
 
-pub the-digest-decides : (v : List ℕ) (m : ℕ) → m ≡ word v 73 → (after : LeafDigested) (a b : ℕ) → a ≡ getD v 71 0 → b ≡ getD v 72 0 → (c : Bool)
-    → c ≡ hasAt v 77 (after .cutoff) → ((eqb (after .refusal) a && eqb (after .waiting) b) && (eqb (after .leaves) m && c)) ≡ sameDigest v after
-the-digest-decides v m e after a b g h c q = rw (e, g, h, q)
+pub the-digest-decides : (v : List ℕ) (m : ℕ) → m ≡ word v 73 → (reply : LeafGave) (a b : ℕ) → a ≡ getD v 71 0 → b ≡ getD v 72 0 → (c : Bool)
+    → c ≡ hasAt v 77 (reply .cutoff) → ((eqb (reply .refusal) a && eqb (reply .waiting) b) && (eqb (reply .leaves) m && c)) ≡ sameDigest v reply
+the-digest-decides v m e reply a b g h c q = rw (e, g, h, q)
 
 module _ (v page : List ℕ) where
   pub a-short-record-lends-nothing : length v < 4205 → page ≡ pageLent v page

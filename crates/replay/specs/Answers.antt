@@ -6,8 +6,8 @@ use lib.Dec.{leb, eqb}
 use lib.ListN.{length, getD, take, drop}
 use Rattle.leaf_node.specs.Page.{word}
 use Rattle.leaf_node.specs.Build.{put}
-use Rattle.leaf_flat.specs.declared.LeafIngested.{LeafIngested}
-use Rattle.leaf_flat.specs.declared.LeafDigested.{LeafDigested}
+use Rattle.leaf_take.specs.declared.LeafReport.{LeafReport}
+use Rattle.leaf_within.specs.declared.LeafGave.{LeafGave}
 use Rattle.leaf_work.specs.Tests.{every}
 use Rattle.replay.specs.Parts.{hasAt, hasPart, isHeld}
 
@@ -16,14 +16,14 @@ abbrev pub pageLent : List ℕ → List ℕ → List ℕ
 pageLent v page = cond (leb 4205 (length v) && leb 4096 (length page)) (put page 0 (take 4096 (drop 109 v))) page
 
 -- an ingest: refusal, and the cell that it reports
-abbrev pub sameReport : List ℕ → LeafIngested → Bool
-sameReport v after =
-    (eqb (after .refusal) (getD v 71 0) && eqb (after .reported) (getD v 72 0)) && (eqb (after .offset) (word v 73) && eqb (after .len) (word v 75))
+abbrev pub sameReport : List ℕ → LeafReport → Bool
+sameReport v reply =
+    (eqb (reply .refusal) (getD v 71 0) && eqb (reply .reported) (getD v 72 0)) && (eqb (reply .offset) (word v 73) && eqb (reply .len) (word v 75))
 
 -- a digest: refusal, how many leaves, and the cutoff for which it waits
-abbrev pub sameDigest : List ℕ → LeafDigested → Bool
-sameDigest v after =
-    (eqb (after .refusal) (getD v 71 0) && eqb (after .waiting) (getD v 72 0)) && (eqb (after .leaves) (word v 73) && hasAt v 77 (after .cutoff))
+abbrev pub sameDigest : List ℕ → LeafGave → Bool
+sameDigest v reply =
+    (eqb (reply .refusal) (getD v 71 0) && eqb (reply .waiting) (getD v 72 0)) && (eqb (reply .leaves) (word v 73) && hasAt v 77 (reply .cutoff))
 
 -- the bytes of area and tickets behind the leaves and tickets that are due hold what they held
 abbrev pub onlyGiven : List ℕ → List ℕ → List ℕ → Bool

@@ -9,7 +9,8 @@ use crate::bytes::same_key;
 use crate::bytes::same_part;
 use crate::tally::Tally;
 use leaf_flat::LeafDigested;
-use leaf_flat::LeafIngested;
+use leaf_take::LeafReport;
+use leaf_within::LeafGave;
 use leaf_work::Work;
 ghost use mathlib.Core.Path.{_≡_};
 ghost use mathlib.Core.Bool.{false};
@@ -157,11 +158,11 @@ fn open(
     run.answered(after.work, after.refusal == byte(v, REFUSAL))
 }
 
-fn same_report(v: &[u8], after: LeafIngested) -> bool
-    ensures { λ r. ⌜ r ≡ sameReport (now (v .entry)) after ⌝ }
+fn same_report(v: &[u8], reply: LeafReport) -> bool
+    ensures { λ r. ⌜ r ≡ sameReport (now (v .entry)) reply ⌝ }
 {
-    let said = (after.refusal == byte(v, REFUSAL)) & (after.reported == byte(v, SAID));
-    said & ((after.offset == number(v, NUMBER)) & (after.len == number(v, SIZE)))
+    let said = (reply.refusal == byte(v, REFUSAL)) & (reply.reported == byte(v, SAID));
+    said & ((reply.offset == number(v, NUMBER)) & (reply.len == number(v, SIZE)))
 }
 
 fn ingest(
@@ -188,15 +189,15 @@ fn ingest(
         byte(v, SECOND),
         &v[BODY..end],
     );
-    run.answered(after.work, same_report(v, after))
+    run.answered(after.work, same_report(v, after.reply))
 }
 
-fn same_digest(v: &[u8], after: LeafDigested) -> bool
-    ensures { λ r. ⌜ r ≡ sameDigest (now (v .entry)) after ⌝ }
+fn same_digest(v: &[u8], reply: LeafGave) -> bool
+    ensures { λ r. ⌜ r ≡ sameDigest (now (v .entry)) reply ⌝ }
 {
-    let cutoff = after.cutoff;
-    let said = (after.refusal == byte(v, REFUSAL)) & (after.waiting == byte(v, SAID));
-    said & ((after.leaves == number(v, NUMBER)) & same_key(v, WAIT, &cutoff))
+    let cutoff = reply.cutoff;
+    let said = (reply.refusal == byte(v, REFUSAL)) & (reply.waiting == byte(v, SAID));
+    said & ((reply.leaves == number(v, NUMBER)) & same_key(v, WAIT, &cutoff))
 }
 
 // The bytes behind what a digest gave are as they were.
@@ -264,7 +265,7 @@ fn digest(
         tickets,
         ticket_room,
     );
-    let right = same_digest(v, after) & only_given(v, area, tickets);
+    let right = same_digest(v, after.reply) & only_given(v, area, tickets);
     let mut run = run;
     run.leaf = 0;
     run.ticket = 0;

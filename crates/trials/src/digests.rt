@@ -3,7 +3,7 @@ use crate::line::close;
 use crate::line::say;
 use crate::line::say_reply;
 use crate::works::no_work;
-use leaf_flat::LeafDigested;
+use leaf_within::LeafGave;
 use leaf_work::Work;
 use libc::STDOUT_FILENO;
 ghost use Prim.Native.Nat.{_<_};
@@ -42,7 +42,7 @@ fn digested(
     more: u8,
     last: &[u8],
     area: &mut [u8],
-) -> LeafDigested {
+) -> LeafGave {
     let mut rows = [[0usize; 5]; 121];
     let mut keys = [[0u8; 32]; 121];
     let mut store = [0u8; 9000];
@@ -80,7 +80,7 @@ fn digested(
         more,
         last,
     );
-    leaf_flat::digest(
+    let after = leaf_flat::digest(
         work,
         &mut rows,
         &mut keys,
@@ -88,7 +88,9 @@ fn digested(
         page,
         area,
         &mut tickets,
-    )
+    );
+    let reply = after.reply;
+    reply
 }
 
 fn wide(x: usize) -> u64 {
@@ -136,7 +138,7 @@ fn say_leaf(page: &[u8], there: bool, stated: usize) -> bool {
 
 // Says what a digest gave; whether it gave leaves with these bodies, 0 for none, and asks for a merge where `waiting` is set.
 fn say_leaves(
-    after: LeafDigested,
+    after: LeafGave,
     area: &[u8],
     one: usize,
     two: usize,

@@ -3,8 +3,8 @@ use crate::line::close;
 use crate::line::say;
 use crate::line::say_reply;
 use crate::pages::flagged_pair;
-use leaf_flat::LeafIngested;
 use leaf_open::Updated;
+use leaf_take::LeafReport;
 use leaf_work::Work;
 
 pub(crate) fn no_work() -> Work {
@@ -64,12 +64,12 @@ fn list_of_121() {
 }
 
 // An opening, with a base where `based` is set, and an ingest: with the value where `put` is set, else a deletion.
-fn ingested(based: u8, page: &[u8], key: &[u8; 32], put: u8, value: &[u8]) -> LeafIngested {
+fn ingested(based: u8, page: &[u8], key: &[u8; 32], put: u8, value: &[u8]) -> LeafReport {
     let mut rows = [[0usize; 5]; 121];
     let mut keys = [[0u8; 32]; 121];
     let mut store = [0u8; 4096];
     let work = opened(based, page, &mut rows, &mut keys, &mut store).work;
-    leaf_flat::ingest(
+    let after = leaf_flat::ingest(
         work,
         &mut rows,
         &mut keys,
@@ -79,7 +79,9 @@ fn ingested(based: u8, page: &[u8], key: &[u8; 32], put: u8, value: &[u8]) -> Le
         put,
         0,
         value,
-    )
+    );
+    let reply = after.reply;
+    reply
 }
 
 // A new value in a work without a base.

@@ -1,6 +1,5 @@
 -- `leaf_flat::digest` meets its contract.
 -- Assumes nothing.
-use Rattle.leaf_flat.proofs.Replies.{digest-out}
 use borrow.Author.Needs.{needs}
 use Rattle.leaf_flat.proofs.digest.Statement.{statement}
 use Rattle.leaf_flat.proofs.digest.Tie as tie
@@ -8,8 +7,8 @@ use Rattle.leaf_flat.proofs.digest.Tie as tie
 digest-requires : tie.Need-digest-requires
 digest-requires c κs = search needs
 
-digested-out-requires : tie.Need-digested-out-requires
-digested-out-requires c κs = search needs
+gave-out-requires : tie.Need-gave-out-requires
+gave-out-requires c κs = search needs
 
 same-length : tie.Need-same-length
 same-length c = search needs
@@ -28,9 +27,10 @@ same-length-5 c = search needs
 
 returns : tie.Need-returns
 returns c =
-    let at-digest = c .before .before .before .before .before .before .before .before .before .before in
+    let at-digest = c .before .before .before .before .before .before .before .before .before .before .before in
     let left = at-digest .digest .ensures in (
-      digest-out (at-digest .digest .result .reply) (at-digest .digest .result .cutoff) (at-digest .digest .result .work) _ _ _ (left .0) (left .2) (c .digested-out .ensures),
+      rw (← left .0) (c .gave-out .ensures),
+      left .2,
       left .3,
       left .4,
       left .5,
@@ -43,7 +43,7 @@ digest-spec =
     tie.close
     (tie.spec
     digest-requires
-    digested-out-requires
+    gave-out-requires
     same-length
     same-length-2
     same-length-3

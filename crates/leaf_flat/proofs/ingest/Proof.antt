@@ -1,6 +1,5 @@
 -- `leaf_flat::ingest` meets its contract.
 -- Assumes nothing.
-use Rattle.leaf_flat.proofs.Replies.{ingest-out}
 use borrow.Author.Needs.{needs}
 use Rattle.leaf_flat.proofs.ingest.Statement.{statement}
 use Rattle.leaf_flat.proofs.ingest.Tie as tie
@@ -11,8 +10,8 @@ change-of-requires c κs = search needs
 ingest-requires : tie.Need-ingest-requires
 ingest-requires c κs = search needs
 
-ingested-out-requires : tie.Need-ingested-out-requires
-ingested-out-requires c κs = search needs
+report-out-requires : tie.Need-report-out-requires
+report-out-requires c κs = search needs
 
 same-length : tie.Need-same-length
 same-length c = search needs
@@ -25,9 +24,9 @@ same-length-3 c = search needs
 
 returns : tie.Need-returns
 returns c =
-    let at-ingest = c .before .before .before .before .before in
+    let at-ingest = c .before .before .before .before .before .before in
     let left = at-ingest .ingest .ensures in
-    rw (← at-ingest .before .change-of .ensures) (ingest-out (at-ingest .ingest .result .reply) (at-ingest .ingest .result .work) _ _ _ (left .0) (left .1) (c .ingested-out .ensures), left .2, left .3, left .4, left .5)
+    rw (← at-ingest .before .change-of .ensures) (rw (← left .0) (c .report-out .ensures), left .1, left .2, left .3, left .4, left .5)
 
 pub ingest-spec : {M : Type 1} → statement M
 ingest-spec =
@@ -35,7 +34,7 @@ ingest-spec =
     (tie.spec
     change-of-requires
     ingest-requires
-    ingested-out-requires
+    report-out-requires
     same-length
     same-length-2
     same-length-3

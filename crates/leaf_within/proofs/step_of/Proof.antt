@@ -5,6 +5,9 @@ use borrow.Author.Needs.{needs}
 use Rattle.leaf_within.proofs.step_of.Statement.{statement}
 use Rattle.leaf_within.proofs.step_of.Tie as tie
 
+gave-out-requires : tie.Need-gave-out-requires
+gave-out-requires c κs = search needs
+
 enum-known-reply : tie.Need-enum-known-reply
 enum-known-reply c = search needs
 
@@ -30,6 +33,7 @@ pub step-of-spec : {M : Type 1} → statement M
 step-of-spec =
     tie.close
     (tie.spec
+    gave-out-requires
     enum-known-reply
     refused-digest-requires
     enum-known-reply-2

@@ -1,2 +1,0 @@
--- The replies of the calls over the flat list, in numbers.
-pub mod Reply
