@@ -1,4 +1,4 @@
--- A sequence of the exported calls, each of which is known by its contract alone (`leaf_updater/specs/Calls.antt`): what a call is lent beside
+-- A sequence of the exported calls, each of which is known by its contract alone (`leaf_updater/specs/Calls.antt`, `leaf_split/specs/Digests.antt`): what a call is lent beside
 -- the page and its arguments is what the last one left. Document 01, "The tally of demand 3".
 use mathlib.Core.Path.{_≡_}
 use mathlib.Core.Bool.{Bool, true, false}
@@ -15,7 +15,8 @@ use Rattle.leaf_work.specs.Verdict.{Opening}
 use Rattle.leaf_work.specs.Digest.{DigestReply, DigestRefused, Finished, Merge}
 use Rattle.leaf_take.specs.declared.LeafReport.{LeafReport}
 use Rattle.leaf_within.specs.declared.LeafGave.{LeafGave}
-use Rattle.leaf_updater.specs.Calls.{OpenSays, IngestSays, DigestSays, NextBaseSays, RemoveCutoffSays}
+use Rattle.leaf_split.specs.Digests.{DigestSays}
+use Rattle.leaf_updater.specs.Calls.{OpenSays, IngestSays, NextBaseSays, RemoveCutoffSays}
 use Rattle.leaf_claim.specs.Sequence.{Call, ingest, digest, next-base, remove-cutoff, State, lent, openedTally, openedPage, fed, givenBy}
 use Rattle.leaf_claim.specs.Claim.{FormedOpening}
 

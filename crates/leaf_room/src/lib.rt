@@ -9,7 +9,7 @@ use leaf_within::room_needed;
 use leaf_work::Entry;
 use leaf_work::Work;
 ghost use mathlib.Core.Path.{_≡_};
-ghost use Rattle.leaf_split.specs.Digests.{DigestSteps};
+ghost use Rattle.leaf_split.specs.Digests.{DigestSays};
 
 // A digest that needs more. It is called at two places, and so the compiler leaves it, with its frame of 4,096 rows and keys, out of the others.
 fn digest_long(
@@ -20,7 +20,7 @@ fn digest_long(
     area: &mut [u8],
     tickets: &mut [u8],
 ) -> DigestStep
-    ensures { λ r. ⌜ DigestSteps work (now (list .entry)) (now (store .entry)) (now (page .entry)) (now (area .entry)) (now (tickets .entry)) r (now (list .exit)) (now (store .exit)) (now (area .exit)) (now (tickets .exit)) ⌝ }
+    ensures { λ r. ⌜ DigestSays work (now (list .entry)) (now (store .entry)) (now (page .entry)) (now (area .entry)) (now (tickets .entry)) (r .reply) (r .work) (now (list .exit)) (now (store .exit)) (now (area .exit)) (now (tickets .exit)) ⌝ }
 {
     let room = room_needed(work, list.len());
     if room < 513 {
@@ -41,7 +41,7 @@ fn digest_whole(
     area: &mut [u8],
     tickets: &mut [u8],
 ) -> DigestStep
-    ensures { λ r. ⌜ DigestSteps work (now (list .entry)) (now (store .entry)) (now (page .entry)) (now (area .entry)) (now (tickets .entry)) r (now (list .exit)) (now (store .exit)) (now (area .exit)) (now (tickets .exit)) ⌝ }
+    ensures { λ r. ⌜ DigestSays work (now (list .entry)) (now (store .entry)) (now (page .entry)) (now (area .entry)) (now (tickets .entry)) (r .reply) (r .work) (now (list .exit)) (now (store .exit)) (now (area .exit)) (now (tickets .exit)) ⌝ }
 {
     let room = room_needed(work, list.len());
     if room < 65 {
@@ -62,7 +62,7 @@ fn digest_cut(
     area: &mut [u8],
     tickets: &mut [u8],
 ) -> DigestStep
-    ensures { λ r. ⌜ DigestSteps work (now (list .entry)) (now (store .entry)) (now (page .entry)) (now (area .entry)) (now (tickets .entry)) r (now (list .exit)) (now (store .exit)) (now (area .exit)) (now (tickets .exit)) ⌝ }
+    ensures { λ r. ⌜ DigestSays work (now (list .entry)) (now (store .entry)) (now (page .entry)) (now (area .entry)) (now (tickets .entry)) (r .reply) (r .work) (now (list .exit)) (now (store .exit)) (now (area .exit)) (now (tickets .exit)) ⌝ }
 {
     let room = room_needed(work, list.len());
     if room < 129 {
@@ -83,7 +83,7 @@ pub fn digest_list(
     area: &mut [u8],
     tickets: &mut [u8],
 ) -> DigestStep
-    ensures { λ r. ⌜ DigestSteps work (now (list .entry)) (now (store .entry)) (now (page .entry)) (now (area .entry)) (now (tickets .entry)) r (now (list .exit)) (now (store .exit)) (now (area .exit)) (now (tickets .exit)) ⌝ }
+    ensures { λ r. ⌜ DigestSays work (now (list .entry)) (now (store .entry)) (now (page .entry)) (now (area .entry)) (now (tickets .entry)) (r .reply) (r .work) (now (list .exit)) (now (store .exit)) (now (area .exit)) (now (tickets .exit)) ⌝ }
 {
     let kept = kept_room(work);
     if kept < 2 {

@@ -1,14 +1,15 @@
--- A digest's outcome, of a work by value: the reply and the work record after the call are returned. Primes are what is there after the call.
+-- Document 01, "To the testers": "Each call's contract settles reply, work record and every lent byte from the inputs, refused calls as well".
+-- What a digest answers and leaves: the contracts' own words, by value and of a work that is lent. Primes are what is there after the call.
 use mathlib.Core.Path.{_≡_}
 use mathlib.Core.List.{List}
 use Prim.Native.Nat.{ℕ}
 use Rattle.leaf_work.specs.declared.Work.{Work}
 use Rattle.leaf_work.specs.declared.Entry.{Entry}
 use Rattle.leaf_work.specs.Digest.{Digested, digestOf}
-use Rattle.leaf_within.specs.declared.DigestStep.{DigestStep}
+use Rattle.leaf_within.specs.declared.LeafGave.{LeafGave}
 use Rattle.leaf_within.specs.Reply.{gaveOut}
 
-abbrev pub DigestSteps : Work → List Entry → List ℕ → List ℕ → List ℕ → List ℕ → DigestStep → List Entry → List ℕ → List ℕ → List ℕ → Type 0
-DigestSteps w list store page area tickets r list′ store′ area′ tickets′ =
+abbrev pub DigestSays : Work → List Entry → List ℕ → List ℕ → List ℕ → List ℕ → LeafGave → Work → List Entry → List ℕ → List ℕ → List ℕ → Type 0
+DigestSays w list store page area tickets r w′ list′ store′ area′ tickets′ =
     (let o : Digested = digestOf 4096 w list store page area tickets in
-    (r .reply ≡ gaveOut (o .reply)) × (r .work ≡ o .work) × (list′ ≡ o .list) × (store′ ≡ o .store) × (area′ ≡ o .area) × (tickets′ ≡ o .tickets))
+    (r ≡ gaveOut (o .reply)) × (w′ ≡ o .work) × (list′ ≡ o .list) × (store′ ≡ o .store) × (area′ ≡ o .area) × (tickets′ ≡ o .tickets))

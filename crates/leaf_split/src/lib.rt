@@ -12,7 +12,7 @@ ghost use mathlib.Core.Path.{_≡_};
 ghost use Prim.Native.Nat.{_≤_};
 ghost use lib.ListN.{length};
 ghost use Rattle.leaf_within.specs.Within.{roomNeeded};
-ghost use Rattle.leaf_split.specs.Digests.{DigestSteps};
+ghost use Rattle.leaf_split.specs.Digests.{DigestSays};
 
 // A digest with rows and keys lent for the list's entries.
 fn digest_in(
@@ -26,7 +26,7 @@ fn digest_in(
     tickets: &mut [u8],
 ) -> DigestStep
     requires { ⌜ (roomNeeded work (length (now list)) ≤ length (now rows)) × (roomNeeded work (length (now list)) ≤ length (now keys)) ⌝ }
-    ensures { λ r. ⌜ DigestSteps work (now (list .entry)) (now (store .entry)) (now (page .entry)) (now (area .entry)) (now (tickets .entry)) r (now (list .exit)) (now (store .exit)) (now (area .exit)) (now (tickets .exit)) ⌝ }
+    ensures { λ r. ⌜ DigestSays work (now (list .entry)) (now (store .entry)) (now (page .entry)) (now (area .entry)) (now (tickets .entry)) (r .reply) (r .work) (now (list .exit)) (now (store .exit)) (now (area .exit)) (now (tickets .exit)) ⌝ }
 {
     let count = split_count(work, list.len());
     let unused = unused_entries(list, begin_unused(count));
@@ -70,7 +70,7 @@ pub fn digest_bare(
     tickets: &mut [u8],
 ) -> DigestStep
     requires { ⌜ roomNeeded work (length (now list)) ≤ 64 ⌝ }
-    ensures { λ r. ⌜ DigestSteps work (now (list .entry)) (now (store .entry)) (now (page .entry)) (now (area .entry)) (now (tickets .entry)) r (now (list .exit)) (now (store .exit)) (now (area .exit)) (now (tickets .exit)) ⌝ }
+    ensures { λ r. ⌜ DigestSays work (now (list .entry)) (now (store .entry)) (now (page .entry)) (now (area .entry)) (now (tickets .entry)) (r .reply) (r .work) (now (list .exit)) (now (store .exit)) (now (area .exit)) (now (tickets .exit)) ⌝ }
 {
     let mut rows = bare_rows();
     let mut keys = bare_keys();
@@ -99,7 +99,7 @@ pub fn digest_small(
     tickets: &mut [u8],
 ) -> DigestStep
     requires { ⌜ roomNeeded work (length (now list)) ≤ 128 ⌝ }
-    ensures { λ r. ⌜ DigestSteps work (now (list .entry)) (now (store .entry)) (now (page .entry)) (now (area .entry)) (now (tickets .entry)) r (now (list .exit)) (now (store .exit)) (now (area .exit)) (now (tickets .exit)) ⌝ }
+    ensures { λ r. ⌜ DigestSays work (now (list .entry)) (now (store .entry)) (now (page .entry)) (now (area .entry)) (now (tickets .entry)) (r .reply) (r .work) (now (list .exit)) (now (store .exit)) (now (area .exit)) (now (tickets .exit)) ⌝ }
 {
     let mut rows = small_rows();
     let mut keys = small_keys();
@@ -128,7 +128,7 @@ pub fn digest_middle(
     tickets: &mut [u8],
 ) -> DigestStep
     requires { ⌜ roomNeeded work (length (now list)) ≤ 512 ⌝ }
-    ensures { λ r. ⌜ DigestSteps work (now (list .entry)) (now (store .entry)) (now (page .entry)) (now (area .entry)) (now (tickets .entry)) r (now (list .exit)) (now (store .exit)) (now (area .exit)) (now (tickets .exit)) ⌝ }
+    ensures { λ r. ⌜ DigestSays work (now (list .entry)) (now (store .entry)) (now (page .entry)) (now (area .entry)) (now (tickets .entry)) (r .reply) (r .work) (now (list .exit)) (now (store .exit)) (now (area .exit)) (now (tickets .exit)) ⌝ }
 {
     let mut rows = middle_rows();
     let mut keys = middle_keys();
@@ -157,7 +157,7 @@ pub fn digest_large(
     tickets: &mut [u8],
 ) -> DigestStep
     requires { ⌜ roomNeeded work (length (now list)) ≤ 4096 ⌝ }
-    ensures { λ r. ⌜ DigestSteps work (now (list .entry)) (now (store .entry)) (now (page .entry)) (now (area .entry)) (now (tickets .entry)) r (now (list .exit)) (now (store .exit)) (now (area .exit)) (now (tickets .exit)) ⌝ }
+    ensures { λ r. ⌜ DigestSays work (now (list .entry)) (now (store .entry)) (now (page .entry)) (now (area .entry)) (now (tickets .entry)) (r .reply) (r .work) (now (list .exit)) (now (store .exit)) (now (area .exit)) (now (tickets .exit)) ⌝ }
 {
     let mut rows = large_rows();
     let mut keys = large_keys();

@@ -1,6 +1,6 @@
 -- Document 01, "To the testers": "Each call's contract settles reply, work record and every lent byte from the inputs, refused calls as well".
 -- What the calls on a work answer and leave, in terms of the definitions that the claim speaks of: the contracts' own words. Primes are what
--- is there after the call.
+-- is there after the call. The digest's words are leaf_split's `DigestSays`.
 use mathlib.Core.Path.{_≡_}
 use mathlib.Core.Bool.{Bool}
 use mathlib.Core.Option.{Option}
@@ -11,11 +11,8 @@ use Rattle.leaf_work.specs.declared.Work.{Work}
 use Rattle.leaf_work.specs.declared.Entry.{Entry}
 use Rattle.leaf_work.specs.Verdict.{Opening}
 use Rattle.leaf_work.specs.Outcome.{replyNumber, Opened, openOf, Ingested, ingestOf, Changed, nextBaseOf, removeCutoffOf}
-use Rattle.leaf_work.specs.Digest.{Digested, digestOf}
 use Rattle.leaf_take.specs.declared.LeafReport.{LeafReport}
 use Rattle.leaf_take.specs.Reply.{reportOut}
-use Rattle.leaf_within.specs.declared.LeafGave.{LeafGave}
-use Rattle.leaf_within.specs.Reply.{gaveOut}
 
 abbrev pub OpenSays : Opening → Work → List Entry → List ℕ → ℕ → Work → List Entry → List ℕ → Type 0
 OpenSays x w list store r w′ list′ store′ =
@@ -24,11 +21,6 @@ OpenSays x w list store r w′ list′ store′ =
 abbrev pub IngestSays : Work → List Entry → List ℕ → List ℕ → List ℕ → Option Change → LeafReport → Work → List Entry → List ℕ → Type 0
 IngestSays w list store page key c r w′ list′ store′ =
     (let o : Ingested = ingestOf 4096 w list store page key c in (r ≡ reportOut (o .reply)) × (w′ ≡ o .work) × (list′ ≡ o .list) × (store′ ≡ o .store))
-
-abbrev pub DigestSays : Work → List Entry → List ℕ → List ℕ → List ℕ → List ℕ → LeafGave → Work → List Entry → List ℕ → List ℕ → List ℕ → Type 0
-DigestSays w list store page area tickets r w′ list′ store′ area′ tickets′ =
-    (let o : Digested = digestOf 4096 w list store page area tickets in
-    (r ≡ gaveOut (o .reply)) × (w′ ≡ o .work) × (list′ ≡ o .list) × (store′ ≡ o .store) × (area′ ≡ o .area) × (tickets′ ≡ o .tickets))
 
 -- next base and cutoff removal only read list and store
 abbrev pub NextBaseSays : Work → List Entry → List ℕ → List ℕ → List ℕ → Bool → List ℕ → ℕ → Work → Type 0

@@ -39,7 +39,8 @@ ghost use Rattle.leaf_open.specs.Opening.{openingOf};
 ghost use Rattle.leaf_ingest.specs.Reply.{changeOf};
 ghost use Rattle.leaf_pending.specs.Reply.{twinOut};
 ghost use Rattle.leaf_take.specs.Reply.{changeGiven};
-ghost use Rattle.leaf_updater.specs.Calls.{OpenSays, IngestSays, DigestSays, NextBaseSays, RemoveCutoffSays};
+ghost use Rattle.leaf_split.specs.Digests.{DigestSays};
+ghost use Rattle.leaf_updater.specs.Calls.{OpenSays, IngestSays, NextBaseSays, RemoveCutoffSays};
 ghost use Rattle.leaf_updater.specs.Copy.{copiedWhole};
 
 // ---- keys

@@ -53,7 +53,7 @@ use Rattle.leaf_passed.specs.Behind.{unusedFrom, unusedOver}
 use Rattle.leaf_entries.specs.Lists.{gathered}
 use Rattle.leaf_within.specs.declared.DigestStep.{DigestStep}
 use Rattle.leaf_within.specs.Within.{splitCount, roomNeeded, SplitFrom, SplitOver, Gathers}
-use Rattle.leaf_split.specs.Digests.{DigestSteps}
+use Rattle.leaf_split.specs.Digests.{DigestSays}
 use Rattle.leaf_entries.proofs.Locals.{tyAt}
 use Rattle.leaf_entries.proofs.Freed.{stands, all-freed}
 use Rattle.leaf_entries.proofs.Shared.{LentShared, shares-again, shared-back, shares-again-at, shared-back-at}
@@ -346,7 +346,7 @@ module _ {M : Type 1} (𝓤 : URA M) (H : Heap 𝓤) (A : Atoms 𝓤) (W : Given
     fits-back e f = (said .few, omega (arith, said .fewer, rows-long, e), omega (arith, said .fewer, keys-long, f))
 
   abbrev Ends : DigestStep → List Entry → List ℕ → List ℕ → List ℕ → Type 0
-  Ends r zs us pg ts = DigestSteps w₀ es (s .now) (p .now) (area .now) (tickets .now) r zs us pg ts
+  Ends r zs us pg ts = DigestSays w₀ es (s .now) (p .now) (area .now) (tickets .now) (r .reply) (r .work) zs us pg ts
 
   ends : (m : ℕ) (b u : Unused) (rs ks : List (List ℕ)) (r : DigestStep) (rs′ ks′ : List (List ℕ)) (us pg ts : List ℕ) (zs : List Entry) → Counted m → b ≡ unusedFrom m → u ≡ unusedOver b es → Splits m rs ks → Said u rs ks r rs′ ks′ us pg ts → zs ≡ gathers (r .count) rs′ ks′ → Ends r zs us pg ts
   ends m b u rs ks r rs′ ks′ us pg ts zs f₁ f₂ f₃ f₄ f₅ f₆ =

@@ -47,7 +47,7 @@ use Rattle.leaf_work.specs.declared.Work.{Work}
 use Rattle.leaf_work.specs.declared.Entry.{Entry}
 use Rattle.leaf_within.specs.declared.DigestStep.{DigestStep}
 use Rattle.leaf_within.specs.Within.{roomNeeded}
-use Rattle.leaf_split.specs.Digests.{DigestSteps}
+use Rattle.leaf_split.specs.Digests.{DigestSays}
 use Rattle.leaf_entries.proofs.Locals.{tyAt}
 use Rattle.leaf_entries.proofs.Freed.{all-freed}
 use Rattle.leaf_entries.proofs.LocalArray.{lends-local, local-back}
@@ -136,7 +136,7 @@ module _ {M : Type 1} (𝓤 : URA M) (H : Heap 𝓤) (A : Atoms 𝓤) (W : Given
 
   -- what is answered and left
   abbrev Ends : DigestStep → List Entry → List ℕ → List ℕ → List ℕ → Type 0
-  Ends r zs us pg ts = DigestSteps w₀ es (s .now) (p .now) (area .now) (tickets .now) r zs us pg ts
+  Ends r zs us pg ts = DigestSays w₀ es (s .now) (p .now) (area .now) (tickets .now) (r .reply) (r .work) zs us pg ts
 
   abbrev Left : List Entry → List ℕ → List ℕ → List ℕ → List (Item 𝓤)
   Left zs us pg ts = toks ∷ ‵ (finally E (x .name) zs) ∷ ‵ (finally u8 (s .name) us) ∷ ‵ Page ∷ ‵ (finally u8 (area .name) pg) ∷ ‵ (finally u8 (tickets .name) ts) ∷ []
