@@ -21,14 +21,13 @@ use Rattle.leaf_work.specs.Tests.{oneOf, bit, keyIf}
 use Rattle.leaf_work.specs.Lent.{roomRight, isOpen, isWaiting}
 use Rattle.leaf_work.specs.Flat.{listOf}
 use Rattle.leaf_work.specs.Sound.{sound}
-use Rattle.leaf_work.specs.Verdict.{unless, first, baseVerdict, nextBaseVerdict, removeVerdict}
+use Rattle.leaf_work.specs.Verdict.{unless, first, baseVerdict, closedVerdict, followsVerdict, nextBaseVerdict, removeVerdict}
 use Rattle.leaf_work.specs.Outcome.{replyNumber, Changed, changedBy, nextBaseWork, nextBaseOf, removeWork, removeCutoffOf}
 use Rattle.leaf_work.proofs.Tests.{passed}
 use Rattle.leaf_work.proofs.BasePages.{base-page-is-good}
 use Rattle.leaf_check.specs.Settled.{Regardable}
 use Rattle.leaf_base.proofs.Bases.{first-refused}
 use Rattle.leaf_base.proofs.Rooms.{the-list-is-as-long-as-its-rows, rows-and-keys-are-as-many, the-rows-outnumber-a-page, right-room-is-a-list-and-a-store}
-use Rattle.leaf_again.specs.Again.{closedVerdict, followsVerdict}
 
 -- ---- room, turn and soundness
 
@@ -37,22 +36,18 @@ no-bytes-are-regardable size = record { good = λ h. absurd (omega arith) }
 
 module _ (size : ℕ) (rows keys : List (List ℕ)) (store : List ℕ) (t : Bool) (q : t ≡ roomRight size (length (listOf rows keys)) (length store)) where
   module _ (w : Work) where
-    pub wrong-room-comes-first : not t ≡ true → 7 ≡ closedVerdict size w (listOf rows keys) store
-    unfolding closedVerdict
+    pub wrong-room-comes-first : not t ≡ true → 7 ≡ closedVerdict size w (listOf rows keys) store 0
     wrong-room-comes-first h = rw (← q, not-true t h)
 
     module _ (n : not t ≡ false) where
-      pub an-open-work-is-out-of-turn : w .turn ≡ 1 → 9 ≡ closedVerdict size w (listOf rows keys) store
-      unfolding closedVerdict
+      pub an-open-work-is-out-of-turn : w .turn ≡ 1 → 9 ≡ closedVerdict size w (listOf rows keys) store 0
       an-open-work-is-out-of-turn e = rw (← q, not-false t n, eq-eqb (w .turn) 1 e)
 
       module _ (ne : w .turn ≡ 1 → ⊥) (b : Bool) (d : b ≡ sound size w (listOf rows keys) store []) where
-        pub an-unsound-work-is-refused : not b ≡ true → 8 ≡ closedVerdict size w (listOf rows keys) store
-        unfolding closedVerdict
+        pub an-unsound-work-is-refused : not b ≡ true → 8 ≡ closedVerdict size w (listOf rows keys) store 0
         an-unsound-work-is-refused h = rw (← q, not-false t n, ne-eqb (w .turn) 1 ne, ← d, not-true b h)
 
-        pub a-sound-work-passes : not b ≡ false → 0 ≡ closedVerdict size w (listOf rows keys) store
-        unfolding closedVerdict
+        pub a-sound-work-passes : not b ≡ false → 0 ≡ closedVerdict size w (listOf rows keys) store 0
         a-sound-work-passes h = rw (← q, not-false t n, ne-eqb (w .turn) 1 ne, ← d, not-false b h)
 
   -- what the test of soundness requires
@@ -73,12 +68,10 @@ laid-by-its-count p n l e = rw e l
 
 module _ (w : Work) (p s : List ℕ) (entries bytes : ℕ) where
   pub no-cutoff-is-out-of-turn : w .cut ≡ 0 → 9 ≡ followsVerdict w p s entries bytes
-  unfolding followsVerdict
   no-cutoff-is-out-of-turn e = rw (eq-eqb (w .cut) 0 e)
 
   module _ (cut : w .cut ≡ 0 → ⊥) (t : Bool) (q : t ≡ ltKey s (w .cutoff)) where
     pub a-low-separator-has-number-13 : t ≡ true → 13 ≡ followsVerdict w p s entries bytes
-    unfolding followsVerdict
     a-low-separator-has-number-13 h = rw (ne-eqb (w .cut) 0 cut, ← q, h)
 
     module _ (h : t ≡ false) (laid : Laid p (count p)) (n : ℕ) (e : n ≡ count p) (few : count p ≤ entries) where
@@ -87,7 +80,6 @@ module _ (w : Work) (p s : List ℕ) (entries bytes : ℕ) where
       record-count = range-length p (count p) laid 0 (count p) (omega arith) (omega arith) ∙ omega arith
 
       pub a-full-list-has-number-15 : entries - n < w .count → 15 ≡ followsVerdict w p s entries bytes
-      unfolding followsVerdict
       a-full-list-has-number-15 l =
           rw (ne-eqb (w .cut) 0 cut, ← q, h, lt-leb (w .count + length (records p)) entries (omega (arith, record-count)))
 
@@ -97,7 +89,6 @@ module _ (w : Work) (p s : List ℕ) (entries bytes : ℕ) where
         value-bytes = sym (rw (← e) v)
 
         pub a-full-store-has-number-16 : bytes - b < w .bytes → 16 ≡ followsVerdict w p s entries bytes
-        unfolding followsVerdict
         a-full-store-has-number-16 g =
             rw (
               ne-eqb (w .cut) 0 cut,
@@ -108,7 +99,6 @@ module _ (w : Work) (p s : List ℕ) (entries bytes : ℕ) where
             )
 
         pub what-has-room-follows : w .bytes ≤ bytes - b → 0 ≡ followsVerdict w p s entries bytes
-        unfolding followsVerdict
         what-has-room-follows g =
             rw (
               ne-eqb (w .cut) 0 cut,
@@ -128,24 +118,23 @@ three-rows false b c v = refl
 
 module _ (size : ℕ) (w : Work) (list : List Entry) (store : List ℕ) where
   pub next-base-by-steps : (p s : List ℕ) (c : Option (List ℕ))
-      → nextBaseVerdict size w list store p s c ≡ first (baseVerdict size p s c) (first (closedVerdict size w list store) (followsVerdict w p s (length list) (length store)))
-  unfolding nextBaseVerdict closedVerdict followsVerdict
+      → nextBaseVerdict size w list store p s c ≡ first (baseVerdict size p s c) (first (closedVerdict size w list store 0) (followsVerdict w p s (length list) (length store)))
+  unfolding nextBaseVerdict
   next-base-by-steps p s c =
       ap (first (baseVerdict size p s c)) (three-rows (roomRight size (length list) (length store)) (not (isOpen w)) (sound size w list store []) _)
 
-  pub remove-by-steps : removeVerdict size w list store ≡ first (closedVerdict size w list store) (unless 9 (isWaiting w) 0)
-  unfolding removeVerdict closedVerdict
+  pub remove-by-steps : removeVerdict size w list store ≡ first (closedVerdict size w list store 0) (unless 9 (isWaiting w) 0)
+  unfolding removeVerdict
   remove-by-steps = three-rows (roomRight size (length list) (length store)) (not (isOpen w)) (sound size w list store []) _
 
-  pub closed-room : closedVerdict size w list store ≡ 0 → roomRight size (length list) (length store) ≡ true
-  unfolding closedVerdict
+  pub closed-room : closedVerdict size w list store 0 ≡ 0 → roomRight size (length list) (length store) ≡ true
   closed-room z = passed 6 (roomRight size (length list) (length store)) _ z .0
 
 module _ (size : ℕ) (w : Work) (rows keys : List (List ℕ)) (store p s : List ℕ) (c : Option (List ℕ)) (a : ℕ) (e : a ≡ baseVerdict size p s c) where
   pub the-new-base-comes-first : (a ≡ 0 → ⊥) → a ≡ nextBaseVerdict size w (listOf rows keys) store p s c
   the-new-base-comes-first h = rw (next-base-by-steps size w (listOf rows keys) store p s c, ← e) (sym (first-refused a _ h))
 
-  module _ (z : a ≡ 0) (v : ℕ) (f : v ≡ closedVerdict size w (listOf rows keys) store) where
+  module _ (z : a ≡ 0) (v : ℕ) (f : v ≡ closedVerdict size w (listOf rows keys) store 0) where
     next : nextBaseVerdict size w (listOf rows keys) store p s c ≡ first v (followsVerdict w p s (length (listOf rows keys)) (length store))
     next = next-base-by-steps size w (listOf rows keys) store p s c ∙ rw (← e, z, ← f)
 
@@ -179,7 +168,7 @@ module _ (size : ℕ) (w : Work) (rows keys : List (List ℕ)) (store p s : List
             right-room-is-a-list-and-a-store rows keys size store (closed-room size w (listOf rows keys) store (sym f ∙ y)) .3,
           )
 
-module _ (size : ℕ) (w : Work) (list : List Entry) (store : List ℕ) (v : ℕ) (e : v ≡ closedVerdict size w list store) where
+module _ (size : ℕ) (w : Work) (list : List Entry) (store : List ℕ) (v : ℕ) (e : v ≡ closedVerdict size w list store 0) where
   pub the-work-comes-before-the-turn : (v ≡ 0 → ⊥) → v ≡ removeVerdict size w list store
   the-work-comes-before-the-turn h = rw (remove-by-steps size w list store, ← e) (sym (first-refused v _ h))
 

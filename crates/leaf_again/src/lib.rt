@@ -20,14 +20,14 @@ use refusal::UNSOUND;
 ghost use mathlib.Core.Path.{_≡_};
 ghost use Prim.Native.Nat.{_≤_};
 ghost use lib.ListN.{length};
+ghost use Rattle.refusal.specs.Refusal.{accepted};
 ghost use Rattle.leaf_node.specs.Limits.{PageSize};
 ghost use Rattle.leaf_node.specs.Page.{count};
 ghost use Rattle.leaf_node.specs.Steps.{Laid};
 ghost use Rattle.leaf_work.specs.Tests.{keyIf};
 ghost use Rattle.leaf_work.specs.Flat.{listOf};
-ghost use Rattle.leaf_work.specs.Verdict.{nextBaseVerdict, removeVerdict};
+ghost use Rattle.leaf_work.specs.Verdict.{closedVerdict, followsVerdict, nextBaseVerdict, removeVerdict};
 ghost use Rattle.leaf_work.specs.Outcome.{replyNumber, Changed, changedBy, nextBaseWork, nextBaseOf, removeWork, removeCutoffOf};
-ghost use Rattle.leaf_again.specs.Again.{closedVerdict, followsVerdict};
 
 // What a call answers with its number: the work after it, or where it is refused the work as it was.
 pub fn reply_of(number: u8, work: Work, after: Work) -> Updated
@@ -54,7 +54,7 @@ fn closed_verdict(
     size: usize,
 ) -> u8
     requires { ⌜ PageSize size ⌝ }
-    ensures { λ r. ⌜ r ≡ closedVerdict size work (listOf (now (rows .entry)) (now (keys .entry))) (now (store .entry)) ⌝ }
+    ensures { λ r. ⌜ r ≡ closedVerdict size work (listOf (now (rows .entry)) (now (keys .entry))) (now (store .entry)) accepted ⌝ }
 {
     let room = room_right(rows, keys, store, size);
     if !room {

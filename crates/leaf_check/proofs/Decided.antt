@@ -39,7 +39,7 @@ use Rattle.leaf_work.proofs.SoundMeans.{Clauses, clauses-of-a-sound-work, a-wor
 use Rattle.leaf_pass.specs.declared.Pass.{Pass}
 use Rattle.leaf_pass.specs.declared.Bounds.{Bounds}
 use Rattle.leaf_pass.specs.Pass.{isBehind, passedAll, begun}
-use Rattle.leaf_check.specs.Settled.{Regardable, boundsOf, listedRight, waitingFits, turnRight, roomFor, restRight, settled, recordRight, within, entriesSound, soundBy}
+use Rattle.leaf_check.specs.Settled.{Regardable, boundsOf, listedRight, waitingFits, turnRight, roomFor, restRight, passRight, recordRight, within, entriesSound, soundBy}
 use Rattle.leaf_check.proofs.Results.{no-page}
 use Rattle.leaf_pass.proofs.Rises.{behind, rises, lastFrom, isSome, is-behind, rises-left, rises-right, rises-append, last-append, between-rises, between-first, between-last, between-is, between-some, rise-of, at-or-above-of, rises-of, below-all, last-is-below, above-last-all, past-is}
 use Rattle.leaf_pass.proofs.Walks.{Come, insertsIn, passed-append, right-before, blanks-pass, passed-blanks, walked, walk-is-the-pass, come, to-walk}
@@ -302,8 +302,8 @@ module _ (size : ℕ) (q : PageSize size) (w : Work) (list : List Entry) (store 
       -- all of it, with what the entries come to
 
       module _ (blanks : every isBlank (drop (w .used) list) ≡ true) (zeros : every isZero (drop (w .filled) store) ≡ true) (record-right : recordRight w ≡ true) where
-        clauses : settled size w y p (length list) (length store) ≡ true → Clauses size w list store p
-        unfolding settled listedRight recordRight
+        clauses : passRight size w y p (length list) (length store) ≡ true → Clauses size w list store p
+        unfolding passRight listedRight recordRight
         clauses h =
             let listed = listedRight w y in
             let turn = turnRight size w y (count p) in
@@ -352,9 +352,9 @@ module _ (size : ℕ) (q : PageSize size) (w : Work) (list : List Entry) (store 
             placed-to : w .filled ≡ y .end → placed (w .filled) 0 es ≡ true
             placed-to e = subst (λ (n : ℕ). placed n 0 es ≡ true) (sym e) (c .ends)
 
-      settled-of : w .filled ≡ y .end → Clauses size w list store p → settled size w y p (length list) (length store) ≡ true
-      unfolding settled listedRight
-      settled-of e k =
+      pass-right-of : w .filled ≡ y .end → Clauses size w list store p → passRight size w y p (length list) (length store) ≡ true
+      unfolding passRight listedRight
+      pass-right-of e k =
           let gauge : (eqb (w .count) (y .count) && eqb (w .bytes) (y .bytes)) ≡ true = rw gauge-same (k .gauge-right) in
           let past : (isZero (y .count) || not (letsIn w (y .last))) ≡ true = rw past-same (k .listed-past) in
           let turn : turnRight size w y (count p) ≡ true = rw turn-same (and-both (k .override-right) (and-both (k .waiting-right) (k .done-right))) in
@@ -377,7 +377,7 @@ module _ (size : ℕ) (q : PageSize size) (w : Work) (list : List Entry) (store 
   by-clauses h =
       let inside = within w (length list) (length store) (count p) in
       let clear = every isZero (drop (w .filled) store) in
-      let end = settled size w whole p (length list) (length store) in
+      let end = passRight size w whole p (length list) (length store) in
       let h₁ = and-right (recordRight w) (inside && (clear && (whole .right && end))) h in
       let h₂ = and-right inside (clear && (whole .right && end)) h₁ in
       let h₃ = and-right clear (whole .right && end) h₂ in
@@ -388,7 +388,7 @@ module _ (size : ℕ) (q : PageSize size) (w : Work) (list : List Entry) (store 
       (and-right (whole .right) end h₃)
     where
       from-pass : w .used ≤ length list → w .filled ≤ length store → w .low ≤ count p → recordRight w ≡ true → every isZero (drop (w .filled) store) ≡ true → whole .right ≡ true
-          → settled size w whole p (length list) (length store) ≡ true → Clauses size w list store p
+          → passRight size w whole p (length list) (length store) ≡ true → Clauses size w list store p
       from-pass used-in fits low-in r zs wr st =
           let y = passedAll b p (begun sep) es in
           let long : length es ≡ w .used = length-take-le (w .used) list used-in in
@@ -399,7 +399,7 @@ module _ (size : ℕ) (q : PageSize size) (w : Work) (list : List Entry) (store 
           let behind : passedAll b p y (drop (w .used) list) .right ≡ true = rw (← the-whole) wr in
           let bl = passed-blanks b p y (drop (w .used) list) y-right (omega (arith, c .seen, long)) behind in
           let same : whole ≡ y = the-whole ∙ bl .1 in
-          clauses fits low-in used-in y c (bl .0) zs r (subst (λ (x : Pass). settled size w x p (length list) (length store) ≡ true) same st)
+          clauses fits low-in used-in y c (bl .0) zs r (subst (λ (x : Pass). passRight size w x p (length list) (length store) ≡ true) same st)
 
   by-pass : Clauses size w list store p → soundBy size w list store p ≡ true
   unfolding soundBy entriesSound recordRight
@@ -427,7 +427,7 @@ module _ (size : ℕ) (q : PageSize size) (w : Work) (list : List Entry) (store 
       and-both (and-both marks (and-both (and-both (k .floor-above) (k .floor-at-turn)) (k .absent-zero)))
       (and-both (and-both (le-leb (w .used) (length list) used-in) (and-both (le-leb (w .filled) (length store) fits) (le-leb (w .low) (count p) low-in)))
       (and-both (and-right (placed (w .filled) 0 es) (every isZero (drop (w .filled) store)) laid)
-      (rw same (and-both (is .1) (settled-of fits low-in used-in (found .0) c filled k)))))
+      (rw same (and-both (is .1) (pass-right-of fits low-in used-in (found .0) c filled k)))))
 
   pub the-pass-decides : soundBy size w list store p ≡ sound size w list store p
   the-pass-decides =

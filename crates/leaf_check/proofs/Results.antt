@@ -22,7 +22,7 @@ use Rattle.leaf_work.specs.Sound.{letsIn, knownTurn, knownFlags, lastBelow, cut
 use Rattle.leaf_pass.specs.declared.Pass.{Pass}
 use Rattle.leaf_pass.specs.declared.Bounds.{Bounds}
 use Rattle.leaf_pass.specs.Pass.{Seeing, Small, isBehind, begun}
-use Rattle.leaf_check.specs.Settled.{Regardable, boundsOf, listedRight, waitingFits, turnRight, roomFor, restRight, settled, recordRight}
+use Rattle.leaf_check.specs.Settled.{Regardable, boundsOf, listedRight, waitingFits, turnRight, roomFor, restRight, passRight, recordRight}
 
 not-not : (b : Bool) → not (not b) ≡ b
 not-not true = refl
@@ -128,10 +128,10 @@ module _ (w : Work) (z : Pass) where
     unfolding restRight
     rest-by x y p q r h e f g k l = rw (lt-ltb (w .low) (count page) (omega (arith, v .counted)), restRight, g, k, l, e, f, ← v .counted)
 
-    pub settled-by : (size entries bytes : ℕ) (p q r s : Bool) → p ≡ listedRight w z → q ≡ turnRight size w z n → r ≡ roomFor w z page entries bytes → s ≡ restRight w z page
-        → (p && (q && (r && s))) ≡ settled size w z page entries bytes
-    unfolding settled
-    settled-by size entries bytes p q r s e f g h = rw (e, f, g, h, ← v .counted)
+    pub pass-right-by : (size entries bytes : ℕ) (p q r s : Bool) → p ≡ listedRight w z → q ≡ turnRight size w z n → r ≡ roomFor w z page entries bytes → s ≡ restRight w z page
+        → (p && (q && (r && s))) ≡ passRight size w z page entries bytes
+    unfolding passRight
+    pass-right-by size entries bytes p q r s e f g h = rw (e, f, g, h, ← v .counted)
 
 -- ---- the page
 

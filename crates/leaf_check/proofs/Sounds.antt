@@ -20,7 +20,7 @@ use Rattle.leaf_work.proofs.FlatList.{length-entries}
 use Rattle.leaf_pass.specs.declared.Pass.{Pass}
 use Rattle.leaf_pass.specs.declared.Bounds.{Bounds}
 use Rattle.leaf_pass.specs.Pass.{Seeing, Small, passedAll, begun}
-use Rattle.leaf_check.specs.Settled.{Regardable, boundsOf, settled, recordRight, entriesSound, soundBy}
+use Rattle.leaf_check.specs.Settled.{Regardable, boundsOf, passRight, recordRight, entriesSound, soundBy}
 use Rattle.leaf_check.proofs.Decided.{base-laid, the-pass-decides}
 
 and-false : (a b : Bool) → a ≡ false → (a && b) ≡ false
@@ -100,13 +100,13 @@ module _ (size : ℕ) (w : Work) (rows keys : List (List ℕ)) (p : List ℕ) (l
   whole-is = sym (rw (m, k, o))
 
   abbrev of-pass : Pass → Bool
-  of-pass y = y .right && settled size w y p (length (entriesOf rows keys)) bytes
+  of-pass y = y .right && passRight size w y p (length (entriesOf rows keys)) bytes
 
   pub a-wrong-entry : not (z .right) ≡ true → false ≡ entriesSound size w (entriesOf rows keys) p bytes
   unfolding entriesSound
   a-wrong-entry r = sym (ap of-pass whole-is ∙ and-false (z .right) _ (not-true (z .right) r))
 
-  pub settles : (a : Bool) → not (z .right) ≡ false → a ≡ settled size w z p (length rows) bytes → a ≡ entriesSound size w (entriesOf rows keys) p bytes
+  pub settles : (a : Bool) → not (z .right) ≡ false → a ≡ passRight size w z p (length rows) bytes → a ≡ entriesSound size w (entriesOf rows keys) p bytes
   unfolding entriesSound
   settles a r v = sym (ap of-pass whole-is ∙ and-true (z .right) _ (not-false (z .right) r) ∙ rw (length-entries rows keys l) (sym v))
 

@@ -55,8 +55,9 @@ restRight w z page = elim (ltb (w .low) (count page)) [
   | false ↦ isZero (z .count) || belowCutoff (cutoffOf w) (z .last)
 ]
 
-unfoldable pub settled : ℕ → Work → Pass → List ℕ → ℕ → ℕ → Bool
-settled size w z page entries bytes =
+-- the entries come to what the work record says
+unfoldable pub passRight : ℕ → Work → Pass → List ℕ → ℕ → ℕ → Bool
+passRight size w z page entries bytes =
     listedRight w z && (turnRight size w z (count page) && (roomFor w z page entries bytes && restRight w z page))
 
 -- ---- all of it
@@ -71,7 +72,7 @@ within w entries bytes n = leb (w .used) entries && (leb (w .filled) bytes && le
 unfoldable pub entriesSound : ℕ → Work → List Entry → List ℕ → ℕ → Bool
 entriesSound size w list page bytes =
     passedAll (boundsOf size w) page (begun (separatorOf w)) list .right
-    && settled size w (passedAll (boundsOf size w) page (begun (separatorOf w)) list) page (length list) bytes
+    && passRight size w (passedAll (boundsOf size w) page (begun (separatorOf w)) list) page (length list) bytes
 
 unfoldable pub soundBy : ℕ → Work → List Entry → List ℕ → List ℕ → Bool
 soundBy size w list store page =

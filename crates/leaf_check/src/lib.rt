@@ -24,7 +24,7 @@ ghost use Rattle.leaf_work.specs.Flat.{entriesOf, listOf};
 ghost use Rattle.leaf_work.specs.Sound.{letsIn, knownTurn, knownFlags, lastBelow, cutoffRight, floorAbove, floorAtTurn, absentZero, sound};
 ghost use Rattle.leaf_work.specs.Verdict.{keysVerdict, lentVerdict};
 ghost use Rattle.leaf_pass.specs.Pass.{Seeing, Small, begun};
-ghost use Rattle.leaf_check.specs.Settled.{Regardable, boundsOf, listedRight, waitingFits, turnRight, roomFor, restRight, settled, recordRight, entriesSound};
+ghost use Rattle.leaf_check.specs.Settled.{Regardable, boundsOf, listedRight, waitingFits, turnRight, roomFor, restRight, passRight, recordRight, entriesSound};
 
 // ---- small tests
 
@@ -209,7 +209,7 @@ fn rest_right(work: Work, pass: Pass, bounds: Bounds, page: &[u8], n: usize) -> 
 }
 
 // Whether the entries come to what the work record says.
-pub fn is_settled(
+pub fn is_pass_right(
     work: Work,
     pass: Pass,
     bounds: Bounds,
@@ -220,7 +220,7 @@ pub fn is_settled(
     size: usize,
 ) -> bool
     requires { ⌜ (Seeing bounds (now page) n) × (Small bounds pass) × (work .low ≡ bounds .low) × (PageSize size) ⌝ }
-    ensures { λ r. ⌜ r ≡ settled size work pass (now (page .entry)) entries bytes ⌝ }
+    ensures { λ r. ⌜ r ≡ passRight size work pass (now (page .entry)) entries bytes ⌝ }
 {
     let turn = turn_right(work, pass, bounds, n, size);
     let room = room_for(work, pass, bounds, page, n, entries, bytes);
@@ -285,7 +285,7 @@ fn entries_sound(
     if !pass.right {
         return false;
     }
-    is_settled(work, pass, bounds, page, n, rows.len(), bytes, size)
+    is_pass_right(work, pass, bounds, page, n, rows.len(), bytes, size)
 }
 
 // Whether a work is sound, with the page as the work regards it.

@@ -19,7 +19,7 @@ use Rattle.leaf_work.specs.Tests.{oneOf}
 use Rattle.leaf_work.specs.Lent.{isOpen, cutoffOf, regarded}
 use Rattle.leaf_work.specs.Pending.{listedOf, restOf}
 use Rattle.leaf_work.specs.Sound.{letsIn}
-use Rattle.leaf_work.specs.TakingUp.{stop, reports, countAfter, bytesAfter, restAfter}
+use Rattle.leaf_work.specs.TakingUp.{reports, stop, drops, countAfter, bytesAfter, restAfter}
 use Rattle.leaf_work.specs.Verdict.{ingestVerdict}
 use Rattle.leaf_work.specs.Outcome.{IngestRefused, Quiet, Reported, ingestNumber, Ingested, reportOf, ingestWork, ingestDone, ingestOn, ingestOf}
 use Rattle.leaf_work.proofs.Tests.{and-both, passed, first-passed}
@@ -65,7 +65,7 @@ module _ (size : ℕ) (s : State) (h : Reached size s) (any k : List ℕ) (c : O
   taken e = rw (e, ingestOn)
 
   report-is-no-refusal : ingestNumber (reportOf size w (s .list) (s .store) p k c) ≡ 0
-  report-is-no-refusal = report-number (reports w p k) (start p (stop w p k)) (lengthAt p (stop w p k))
+  report-is-no-refusal = report-number (reports (w .low) p (stop w p k) (drops w p k)) (start p (stop w p k)) (lengthAt p (stop w p k))
 
   pub ingest-answers-its-verdict : answered size s (ingest any k c) ≡ verdict
   ingest-answers-its-verdict = ap (λ r. ingestNumber (r .reply)) ingest-of-a-reached-state ∙ go (eqb verdict 0) refl

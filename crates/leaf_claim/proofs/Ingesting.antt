@@ -22,7 +22,7 @@ use Rattle.leaf_work.specs.declared.Work.{Work}
 use Rattle.leaf_work.specs.declared.Entry.{Entry}
 use Rattle.leaf_work.specs.Lent.{blank, chunkOf, cutoffOf, overrideOf}
 use Rattle.leaf_work.specs.Pending.{listedOf, restOf, pendingOf}
-use Rattle.leaf_work.specs.TakingUp.{valueOf, stop, lowAfter, restAfter, newChunk, newInsert, newEntries, countAfter, bytesAfter}
+use Rattle.leaf_work.specs.TakingUp.{valueOf, chunkEntries, insertEntries, stop, lowAfter, restAfter, newEntries, countAfter, bytesAfter}
 use Rattle.leaf_work.specs.Outcome.{ingestWork, ingestDone}
 use Rattle.leaf_work.proofs.Operations.{Op, Put, Keep, recordsOfOps, storedBytes, entriesOf, Within, total-append, entries-length, records-append, bytes-append, entries-append, some-put-append, ops-few, bytes-few}
 use Rattle.leaf_work.proofs.Searching.{Split, the-search-splits-the-rest}
@@ -88,7 +88,7 @@ within-more l (cons {x = Put r} h hs) = cons tt (within-more l hs)
 within-more l (cons {x = Keep f t} h hs) = cons {x = Keep f t} (h .0, omega (arith, h .1)) (within-more l hs)
 
 module _ (size : ℕ) (w : Work) (list : List Entry) (store p k : List ℕ) (c : Option Change) (ops : List Op) (l : Laid w list store p ops) where
-  put-entries : (c : Option Change) → entriesOf p (w .filled) (putOps k c) ≡ newInsert w p k c
+  put-entries : (c : Option Change) → entriesOf p (w .filled) (putOps k c) ≡ insertEntries (w .filled) k c
   put-entries none = refl
   put-entries (some d) = refl
 
@@ -104,7 +104,7 @@ module _ (size : ℕ) (w : Work) (list : List Entry) (store p k : List ℕ) (c :
   so : Split w p k
   so = the-search-splits-the-rest w p k (l .low-in)
 
-  ks : Keeps p (w .low) S L (keepOps (w .low) S) (newChunk w p k)
+  ks : Keeps p (w .low) S L (keepOps (w .low) S) (chunkEntries (w .low) S (valuesSize p (w .low) S))
   ks = keeps p (w .low) S L (so .from) (so .to)
 
   abbrev pub new : List Op
@@ -122,7 +122,7 @@ module _ (size : ℕ) (w : Work) (list : List Entry) (store p k : List ℕ) (c :
   new-entries : entriesOf p (w .filled) new ≡ added
   new-entries =
       entries-append p (w .filled) (keepOps (w .low) S) (putOps k c)
-      ∙ rw (ks .entries (w .filled), ks .no-bytes, add-zero (w .filled)) (ap (λ z. newChunk w p k ++ z) (put-entries c))
+      ∙ rw (ks .entries (w .filled), ks .no-bytes, add-zero (w .filled)) (ap (λ z. chunkEntries (w .low) S (valuesSize p (w .low) S) ++ z) (put-entries c))
 
   new-within : All (Within L) (ops ++ new)
   new-within = all-append (within-more (omega (arith, so .from, so .to)) (l .chunks)) (all-append (ks .within) (put-within L k c))

@@ -8,6 +8,7 @@ use lib.Dec.{eqb, leb, ltb}
 use lib.ListN.{length, getD, drop}
 use Rattle.leaf_node.specs.Record.{Record}
 use Rattle.leaf_node.specs.Page.{lengthAt, run}
+use Rattle.leaf_work.specs.Pending.{recordsBy}
 use Rattle.leaf_cut.specs.declared.Ended.{Ended}
 use Rattle.leaf_cut.specs.declared.Target.{Target}
 use Rattle.leaf_cut.specs.declared.Span.{Span}
@@ -68,7 +69,7 @@ unfoldable pub pieceSizes : List ℕ → Piece → List ℕ
 pieceSizes page x = cond (x .insert) ((x .to - x .from) ∷ []) (run (x .to - x .from) (x .from) (lengthAt page))
 
 unfoldable pub pieceCount : Piece → ℕ
-pieceCount x = cond (x .insert) 1 (x .to - x .from)
+pieceCount x = recordsBy (x .insert) (x .from) (x .to)
 
 -- ---- moving on
 

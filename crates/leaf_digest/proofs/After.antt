@@ -13,7 +13,7 @@ use Rattle.leaf_work.specs.Tests.{isSet, oneOf, keyIf}
 use Rattle.leaf_work.specs.Lent.{separatorOf}
 use Rattle.leaf_work.specs.Digest.{digestWork}
 use Rattle.leaf_cut.specs.declared.Gauge.{Gauge}
-use Rattle.leaf_digest.specs.Steps.{workWith}
+use Rattle.leaf_digest.specs.Steps.{digestWorkBy}
 
 -- ---- the work record
 
@@ -38,16 +38,16 @@ module _ (w : Work) (g : Gauge) (s : List ℕ) where
     last = w .last;
   }
 
-  pub nothing-is-kept : g .count ≡ 0 → workLike 3 0 zeroKey (w .floor) ≡ workWith w g s
-  unfolding workWith
+  pub nothing-is-kept : g .count ≡ 0 → workLike 3 0 zeroKey (w .floor) ≡ digestWorkBy w g s
+  unfolding digestWorkBy
   nothing-is-kept h = rw (eq-eqb (g .count) 0 h)
 
-  pub records-are-kept-for-a-merge : (g .count ≡ 0 → ⊥) → (w .cut ≡ 0 → ⊥) → workLike 2 1 s (w .cutoff) ≡ workWith w g s
-  unfolding workWith
+  pub records-are-kept-for-a-merge : (g .count ≡ 0 → ⊥) → (w .cut ≡ 0 → ⊥) → workLike 2 1 s (w .cutoff) ≡ digestWorkBy w g s
+  unfolding digestWorkBy
   records-are-kept-for-a-merge h k = rw (ne-eqb (g .count) 0 h, ne-eqb (w .cut) 0 k)
 
-  pub records-are-kept : (g .count ≡ 0 → ⊥) → w .cut ≡ 0 → workLike 2 1 s (w .floor) ≡ workWith w g s
-  unfolding workWith
+  pub records-are-kept : (g .count ≡ 0 → ⊥) → w .cut ≡ 0 → workLike 2 1 s (w .floor) ≡ digestWorkBy w g s
+  unfolding digestWorkBy
   records-are-kept h k = rw (ne-eqb (g .count) 0 h, eq-eqb (w .cut) 0 k)
 
 either-floor : (b : Bool) (k f : List ℕ) → oneOf b k f ≡ orElse (keyIf b k) f
@@ -55,8 +55,8 @@ either-floor true k f = refl
 either-floor false k f = refl
 
 pub the-work-after-a-digest : (w : Work) (ls : List (List Record)) (kept : List Record) (g : Gauge) (s : List ℕ) → g .count ≡ length kept → g .bytes ≡ total kept
-    → s ≡ separatorAfter (separatorOf w) ls kept → workWith w g s ≡ digestWork w (record { leaves = ls; left = kept })
-unfolding workWith
+    → s ≡ separatorAfter (separatorOf w) ls kept → digestWorkBy w g s ≡ digestWork w (record { leaves = ls; left = kept })
+unfolding digestWorkBy
 the-work-after-a-digest w ls [] g s c b e = rw (c, b)
 the-work-after-a-digest w ls (r ∷ rs) g s c b e =
     let h : g .count ≡ 0 → ⊥ = λ z. absurd (omega (arith, c)) in

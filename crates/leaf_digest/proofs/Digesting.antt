@@ -20,7 +20,7 @@ use Rattle.leaf_merge.specs.Keeping.{Keeps, KeptAs}
 use Rattle.leaf_digest.specs.declared.Digested.{Digested}
 use Rattle.leaf_digest.specs.declared.Gave.the-variants.{Finished, Merge}
 use Rattle.leaf_digest.specs.Reply.{cutoffBeside}
-use Rattle.leaf_digest.specs.Steps.{workWith, Digests, Leaves}
+use Rattle.leaf_digest.specs.Steps.{digestWorkBy, Digests, Leaves}
 use Rattle.leaf_digest.proofs.After.{the-work-after-a-digest}
 
 none-left : (rs : List Record) (n : ℕ) → n ≡ length rs → n ≡ 0 → rs ≡ []
@@ -83,7 +83,7 @@ module _ (size : ℕ) (w : Work) (rows keys : List (List ℕ)) (store page area 
       store-is : store′ ≡ done .store
       store-is = k .store-is ∙ ap (λ (x : List Record). values x ++ zeros (length store - total x)) (g .left-is)
 
-      module _ (next : Work) (e : next ≡ workWith w (p .left) (p .separator)) where
+      module _ (next : Work) (e : next ≡ digestWorkBy w (p .left) (p .separator)) where
         work-is : next ≡ done .work
         work-is = e ∙ the-work-after-a-digest w (P .leaves) (P .left) (p .left) (p .separator) (g .count-is) (g .bytes-is) (g .separator-is)
 

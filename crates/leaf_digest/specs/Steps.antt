@@ -30,9 +30,10 @@ pub record Judged (size : ℕ) (w : Work) (page : List ℕ) (lent : ℕ) : Type 
 unfoldable pub bodyWith : Gauge → List ℕ → ℕ → ℕ
 bodyWith listed page low = 34 * (listed .count + (count page - low)) + (listed .bytes + valuesSize page low (count page))
 
--- the work record after a digest that keeps records with the gauge `left`
-unfoldable pub workWith : Work → Gauge → List ℕ → Work
-workWith w left separator = record {
+-- the work record after a digest that keeps records with the gauge `left`: leaf_work's `digestWork` by this gauge and the separator, without the
+-- records; `proofs/After.antt` shows that they agree
+unfoldable pub digestWorkBy : Work → Gauge → List ℕ → Work
+digestWorkBy w left separator = record {
   turn = oneOf (isZero (left .count)) (turnNumber Done) (turnNumber Waiting);
   based = w .based;
   low = 0;

@@ -31,7 +31,7 @@ ghost use Rattle.leaf_cut.specs.Steps.{Modest};
 ghost use Rattle.leaf_work.specs.Digest as outcome;
 ghost use Rattle.leaf_give.specs.Giving.{planned};
 ghost use Rattle.leaf_digest.specs.Reply.{replyOf, cutoffBeside};
-ghost use Rattle.leaf_digest.specs.Steps.{Judged, bodyWith, workWith, Digests, Leaves};
+ghost use Rattle.leaf_digest.specs.Steps.{Judged, bodyWith, digestWorkBy, Digests, Leaves};
 
 // A refusal, the leaves of a digest that is done, or those of one that waits for a merge.
 pub enum Gave {
@@ -123,7 +123,7 @@ fn digest_verdict(
 
 // The work record after a digest that keeps `left`, whose separator is given.
 fn digest_work(work: Work, left: Gauge, separator: [u8; 32]) -> Work
-    ensures { λ r. ⌜ r ≡ workWith work left separator ⌝ }
+    ensures { λ r. ⌜ r ≡ digestWorkBy work left separator ⌝ }
 {
     let mut next = work;
     next.low = 0;

@@ -1,7 +1,7 @@
 -- Ingests: what they require of all that earns no refusal, and what they leave. Assumes nothing.
 use mathlib.Core.Path.{_≡_, refl, sym, ap, _∙_}
 use mathlib.Core.Bool.{Bool, true, false}
-use mathlib.Core.Option.{Option, none, some}
+use mathlib.Core.Option.{Option}
 use mathlib.Core.List.{List}
 use Prim.Native.Nat.{ℕ, _+_, _≤_}
 use native.Mathlib.Omega.{arith}
@@ -19,7 +19,7 @@ use Rattle.leaf_work.specs.declared.Entry.{Entry}
 use Rattle.leaf_work.specs.Lent.{cutoffOf, isOpen, regarded}
 use Rattle.leaf_work.specs.Flat.{entriesOf, listOf, keysAfter}
 use Rattle.leaf_work.specs.Sound.{letsIn}
-use Rattle.leaf_work.specs.TakingUp.{valueOf, stop, reports, restAfter, newChunk, newInsert, newEntries, countAfter, bytesAfter}
+use Rattle.leaf_work.specs.TakingUp.{valueOf, reports, entriesWith, stop, drops, restAfter, newEntries, countAfter, bytesAfter}
 use Rattle.leaf_work.specs.Verdict.{lentVerdict, ingestVerdict}
 use Rattle.leaf_work.specs.Outcome as outcome
 use Rattle.leaf_work.proofs.Tests.{passed}
@@ -33,7 +33,7 @@ use Rattle.leaf_ingest.specs.declared.Kept.{Kept}
 use Rattle.leaf_ingest.specs.declared.Ingested.{Ingested}
 use Rattle.leaf_ingest.specs.declared.Report.the-variants.{Refused}
 use Rattle.leaf_ingest.specs.Reply.{changeOf, replyOf}
-use Rattle.leaf_ingest.specs.Steps.{Taken, stepVerdict, addedBy, insertEntries, chunkEntries, entriesWith, rowsOf, keysOf, reportBy, workWith, Room, Stepped, rowsWith, Leaves, Takes}
+use Rattle.leaf_ingest.specs.Steps.{Taken, stepVerdict, addedBy, rowsOf, keysOf, ingestWorkBy, Room, Stepped, rowsWith, Leaves, Takes}
 use Rattle.leaf_ingest.proofs.Numbers.{the-list-is-as-long, the-number-is-that-of-the-call, range-length, range-total, added-records, pending-is, pending-bytes-are}
 use Rattle.leaf_ingest.proofs.Splicing.{map-put, keys-of-entries, the-list-is-put}
 
@@ -80,24 +80,14 @@ report-number false at n = refl
 -- ---- what is written is what the definitions say, by what the key takes up
 
 module _ (w : Work) (page k : List ℕ) (kept : Kept) (g : Taken w page k kept) where
-  chunk-is : chunkEntries (w .low) (kept .stop) (kept .taken) ≡ newChunk w page k
-  unfolding chunkEntries
-  chunk-is = rw (g .stop-is, g .taken-is)
-
-  insert-is : (c : Option Change) → insertEntries (w .filled) k c ≡ newInsert w page k c
-  unfolding insertEntries
-  insert-is none = refl
-  insert-is (some d) = refl
-
-  pub entries-are : (c : Option Change) → entriesWith w k kept c ≡ newEntries w page k c
-  entries-are c = rw (chunk-is, insert-is c)
+  pub entries-are : (c : Option Change) → entriesWith w k (kept .stop) (kept .taken) c ≡ newEntries w page k c
+  entries-are c = rw (g .stop-is, g .taken-is)
 
   module _ (size : ℕ) (list : List Entry) (store : List ℕ) (c : Option Change) where
-    pub report-is : reportBy (w .low) page (kept .stop) (kept .dropped) ≡ outcome.reportOf size w list store page k c
-    unfolding reportBy
+    pub report-is : outcome.reportBy (w .low) page (kept .stop) (kept .dropped) ≡ outcome.reportOf size w list store page k c
     report-is = rw (g .stop-is, g .dropped-is)
 
-    pub work-is : workWith w k kept (w .used + length (entriesWith w k kept c)) (length (inserted k c)) (length (valueOf c)) ≡ outcome.ingestWork size w list store page k c
+    pub work-is : ingestWorkBy w k kept (w .used + length (entriesWith w k (kept .stop) (kept .taken) c)) (length (inserted k c)) (length (valueOf c)) ≡ outcome.ingestWork size w list store page k c
     work-is = rw (entries-are c, g .low-is, g .stop-is, g .taken-is, range-length page (w .low) (stop w page k), range-total page (w .low) (stop w page k))
 
 the-lent-things-come-first : (size : ℕ) (w : Work) (list : List Entry) (store page k : List ℕ) (c : Option Change) (v : ℕ) → v ≡ lentVerdict size w list store page → (v ≡ 0 → ⊥)
@@ -184,7 +174,7 @@ module _ (size : ℕ) (w : Work) (rows keys : List (List ℕ)) (store page : Lis
           → Leaves (outcome.ingestOn size w (listOf rows keys) store page k c 0) (w .used) (newEntries w page k c) rows keys r rows′ keys′ store′
       unfolding put
       an-accepted-ingest-leaves-its-outcome r rows′ keys′ store′ s =
-          let n : outcome.ingestNumber (outcome.reportOf size w (listOf rows keys) store page k c) ≡ 0 = report-number (reports w page k) _ _ in
+          let n : outcome.ingestNumber (outcome.reportOf size w (listOf rows keys) store page k c) ≡ 0 = report-number (reports (w .low) page (stop w page k) (drops w page k)) _ _ in
           let es = entries-are w page k kept g c in
           let rs : rows′ ≡ put rows (w .used) (rowsOf (newEntries w page k c)) = s .rows-is ∙ rw es in
           let ks : keys′ ≡ put keys (w .used) (keysOf (newEntries w page k c)) = s .keys-is ∙ rw es in

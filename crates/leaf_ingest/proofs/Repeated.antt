@@ -21,7 +21,7 @@ use Rattle.leaf_work.specs.declared.Entry.{Entry}
 use Rattle.leaf_work.specs.Tests.{bit}
 use Rattle.leaf_work.specs.Lent.{blank, chunkOf, insertAt, regarded}
 use Rattle.leaf_work.specs.Flat.{entriesOf, listOf, rowOf, rowsAfter}
-use Rattle.leaf_work.specs.TakingUp.{valueOf, stop, lowAfter, reports, newChunk, newInsert, newEntries}
+use Rattle.leaf_work.specs.TakingUp.{valueOf, reports, chunkEntries, insertEntries, stop, drops, lowAfter, newEntries}
 use Rattle.leaf_work.specs.Verdict.{lentVerdict, ingestVerdict}
 use Rattle.leaf_work.specs.Outcome as outcome
 use Rattle.leaf_work.specs.Ready.{EntryIn, Ready}
@@ -54,18 +54,21 @@ module _ (size : ℕ) (w : Work) (list : List Entry) (store page k : List ℕ) (
   split : Split w page k
   split = the-search-splits-the-rest w page k (t .ready .low-in)
 
-  chunk-few : length (newChunk w page k) ≤ stop w page k - w .low
+  abbrev chunk : List Entry
+  chunk = chunkEntries (w .low) (stop w page k) (valuesSize page (w .low) (stop w page k))
+
+  chunk-few : length chunk ≤ stop w page k - w .low
   chunk-few = go (ltb (w .low) (stop w page k)) refl
     where
       go : (b : Bool) → ltb (w .low) (stop w page k) ≡ b → length {A = Entry} (elim b [ true ↦ chunkOf (w .low) (stop w page k) (valuesSize page (w .low) (stop w page k)) ∷ [] | false ↦ [] ]) ≤ stop w page k - w .low
       go true e = omega (arith, ltb-true (w .low) (stop w page k) e)
       go false e = omega arith
 
-  insert-few : (d : Option Change) → length (newInsert w page k d) ≡ length (inserted k d)
+  insert-few : (d : Option Change) → length (insertEntries (w .filled) k d) ≡ length (inserted k d)
   insert-few none = refl
   insert-few (some d) = refl
 
-  chunk-in : All (EntryIn (lowAfter w page k) (w .filled + length (valueOf c))) (newChunk w page k)
+  chunk-in : All (EntryIn (lowAfter w page k) (w .filled + length (valueOf c))) chunk
   chunk-in = go (ltb (w .low) (stop w page k)) refl
     where
       go : (b : Bool) → ltb (w .low) (stop w page k) ≡ b
@@ -73,7 +76,7 @@ module _ (size : ℕ) (w : Work) (list : List Entry) (store page k : List ℕ) (
       go true e = cons (record { insert = λ (q : _≡_ {A = ℕ} 2 1). absurd (omega arith); chunk = λ q. (ltb-true (w .low) (stop w page k) e, split .to) }) nil
       go false e = nil
 
-  insert-in : (low : ℕ) (d : Option Change) → All (EntryIn low (w .filled + length (valueOf d))) (newInsert w page k d)
+  insert-in : (low : ℕ) (d : Option Change) → All (EntryIn low (w .filled + length (valueOf d))) (insertEntries (w .filled) k d)
   insert-in low none = nil
   insert-in low (some d) = cons {x = insertAt (w .filled) (w .filled + length (d .value)) k (bit (d .flag))} (record { insert = λ q. (omega arith, omega arith); chunk = λ q. absurd (q refl) }) nil
 
@@ -90,7 +93,7 @@ module _ (size : ℕ) (w : Work) (list : List Entry) (store page k : List ℕ) (
           rows-passed .list-room,
           range-length page (w .low) (stop w page k),
           t .ready .used-few,
-          length-append (newChunk w page k) (newInsert w page k c),
+          length-append chunk (insertEntries (w .filled) k c),
           chunk-few,
           insert-few c,
         )
@@ -131,7 +134,7 @@ module _ (size : ℕ) (w : Work) (list : List Entry) (store page k : List ℕ) (
           filled-in = omega (arith, store-room, store-length);
           low-in = split .upto;
           entries = λ i h. one-of-all (drop (w .used + length (newEntries w page k c)) list) listed-in i (omega (arith, listed-length));
-          used-few = omega (arith, n, r .used-few, length-append (newChunk w page k) (newInsert w page k c), chunk-few, insert-few c);
+          used-few = omega (arith, n, r .used-few, length-append chunk (insertEntries (w .filled) k c), chunk-few, insert-few c);
           filled-few = omega (arith, r .filled-few);
           few = omega (arith, rows-passed .list-room, m, r .list-short);
           store-room = omega (arith, rows-passed .store-room, range-total page (lowAfter w page k) (count page), store-length);
@@ -218,6 +221,6 @@ module _ (size : ℕ) (w : Work) (rows keys : List (List ℕ)) (store page k : L
     where
       go : (b : Bool) → eqb verdict 0 ≡ b → rowsWith (outcome.ingestNumber (o .reply)) (w .used) added rows ≡ rowsAfter (outcome.ingestNumber (o .reply)) (o .list) rows
       go true e =
-          let n : outcome.ingestNumber (outcome.reportOf size w (listOf rows keys) store (regarded w page) k c) ≡ 0 = report-number (reports w (regarded w page) k) _ _ in
+          let n : outcome.ingestNumber (outcome.reportOf size w (listOf rows keys) store (regarded w page) k c) ≡ 0 = report-number (reports (w .low) (regarded w page) (stop w (regarded w page) k) (drops w (regarded w page) k)) _ _ in
           rw (taken e, n) (rows-are (lent-accepted (eqb-true _ _ e)))
       go false e = rw (turned-down e, rowsWith, rowsAfter, e)

@@ -14,8 +14,9 @@ use Rattle.leaf_work.specs.declared.Entry.{Entry}
 use Rattle.leaf_work.specs.Tests.{bit}
 use Rattle.leaf_work.specs.Lent.{insertAt}
 use Rattle.leaf_work.specs.Flat.{rowOf}
-use Rattle.leaf_work.specs.TakingUp.{valueOf}
+use Rattle.leaf_work.specs.TakingUp.{valueOf, chunkEntries, insertEntries, entriesWith}
 use Rattle.leaf_work.specs.Outcome as outcome
+use Rattle.leaf_work.specs.Outcome.{reportBy}
 use Rattle.leaf_work.proofs.Tests.{map-append}
 use Rattle.leaf_builder.proofs.Putting.{put-none, put-put}
 use Rattle.leaf_ingest.specs.declared.Change as taken
@@ -23,7 +24,7 @@ use Rattle.leaf_ingest.specs.declared.Change.the-variants.{Put, Delete}
 use Rattle.leaf_ingest.specs.declared.Kept.{Kept}
 use Rattle.leaf_ingest.specs.declared.Report.{Report}
 use Rattle.leaf_ingest.specs.Reply.{changeOf, replyOf}
-use Rattle.leaf_ingest.specs.Steps.{Sizes, addedBy, chunkEntries, insertEntries, entriesWith, rowsOf, keysOf, reportBy, workWith, Room, Stepped}
+use Rattle.leaf_ingest.specs.Steps.{Sizes, addedBy, rowsOf, keysOf, ingestWorkBy, Room, Stepped}
 use Rattle.leaf_ingest.proofs.Numbers.{added-records}
 use Rattle.leaf_ingest.proofs.Splicing.{put-one}
 
@@ -33,13 +34,11 @@ module _ (rows keys : List (List ℕ)) (at low stop sum : ℕ) where
   pub no-chunk-is-listed : stop ≤ low
       → (at ≡ at + length (chunkEntries low stop sum)) × (at ≤ at + (stop - low)) × (rows ≡ put rows at (rowsOf (chunkEntries low stop sum)))
       × (keys ≡ put keys at (keysOf (chunkEntries low stop sum)))
-  unfolding chunkEntries
   no-chunk-is-listed h = rw (chunkEntries, le-ltb low stop h) (omega arith, omega arith, sym (put-none rows at), sym (put-none keys at))
 
   pub a-chunk-is-listed : low < stop → at + (stop - low) ≤ length rows → length rows ≡ length keys
       → (at + 1 ≡ at + length (chunkEntries low stop sum)) × (at + 1 ≤ at + (stop - low)) × (set rows at (2 ∷ 0 ∷ low ∷ stop ∷ sum ∷ []) ≡ put rows at (rowsOf (chunkEntries low stop sum)))
       × (set keys at (replicate 32 0) ≡ put keys at (keysOf (chunkEntries low stop sum)))
-  unfolding chunkEntries
   a-chunk-is-listed h r e =
       rw (chunkEntries, lt-ltb low stop h) (refl, omega arith, put-one rows at (2 ∷ 0 ∷ low ∷ stop ∷ sum ∷ []) (omega arith), put-one keys at (replicate 32 0) (omega arith))
 
@@ -47,7 +46,6 @@ module _ (rows keys : List (List ℕ)) (at from : ℕ) (k : List ℕ) (change : 
   pub a-deletion-lists-nothing : change ≡ Delete
       → (at ≡ at + length (insertEntries from k (changeOf change value))) × (rows ≡ put rows at (rowsOf (insertEntries from k (changeOf change value))))
       × (keys ≡ put keys at (keysOf (insertEntries from k (changeOf change value))))
-  unfolding insertEntries
   a-deletion-lists-nothing e = rw e (omega arith, sym (put-none rows at), sym (put-none keys at))
 
   module _ (flag : Bool) (e : change ≡ Put flag) (r : at + addedBy change ≤ length rows) where
@@ -58,7 +56,6 @@ module _ (rows keys : List (List ℕ)) (at from : ℕ) (k : List ℕ) (change : 
         → rows′ ≡ set rows at (rowOf (insertAt from (from + length value) k (bit flag))) → keys′ ≡ set keys at k
         → (at + 1 ≡ at + length (insertEntries from k (changeOf change value))) × (rows′ ≡ put rows at (rowsOf (insertEntries from k (changeOf change value))))
         × (keys′ ≡ put keys at (keysOf (insertEntries from k (changeOf change value))))
-    unfolding insertEntries
     an-insert-is-listed l rows′ keys′ p q =
         rw (e, p, q) (
           refl,
@@ -81,7 +78,6 @@ module _ (rows keys : List (List ℕ)) (at : ℕ) (chunk insert : List Entry) (h
 
 module _ (low : ℕ) (page : List ℕ) (z : Kept) where
   pub what-is-not-dropped-is-not-reported : not (z .dropped) ≡ true → outcome.Quiet ≡ reportBy low page (z .stop) (z .dropped)
-  unfolding reportBy
   what-is-not-dropped-is-not-reported h = rw (not-true (z .dropped) h)
 
   module _ (d : not (z .dropped) ≡ false) where
@@ -89,7 +85,6 @@ module _ (low : ℕ) (page : List ℕ) (z : Kept) where
     a-dropped-record-is-readable r = r (not-false (z .dropped) d)
 
     pub the-first-record-is-not-reported : z .stop ≤ low → outcome.Quiet ≡ reportBy low page (z .stop) (z .dropped)
-    unfolding reportBy
     the-first-record-is-not-reported h = go (flagAt page (z .stop)) refl
       where
         go : (b : Bool) → flagAt page (z .stop) ≡ b → outcome.Quiet ≡ reportBy low page (z .stop) (z .dropped)
@@ -98,11 +93,9 @@ module _ (low : ℕ) (page : List ℕ) (z : Kept) where
 
     module _ (l : low < z .stop) (f : Bool) (e : f ≡ flagAt page (z .stop)) where
       pub a-flagged-record-is-reported : (a n : ℕ) → f ≡ true → a ≡ start page (z .stop) → n ≡ lengthAt page (z .stop) → outcome.Reported a n ≡ reportBy low page (z .stop) (z .dropped)
-      unfolding reportBy
       a-flagged-record-is-reported a n t p q = rw (not-false (z .dropped) d, ← e, t, lt-ltb low (z .stop) l, p, q, reportBy)
 
       pub a-plain-record-is-not-reported : f ≡ false → outcome.Quiet ≡ reportBy low page (z .stop) (z .dropped)
-      unfolding reportBy
       a-plain-record-is-not-reported t = rw (not-false (z .dropped) d, ← e, t, reportBy)
 
 -- ---- all of it
@@ -116,9 +109,9 @@ module _ (w : Work) (page : List ℕ) (z : Kept) (change : taken.Change) (value 
   the-gauge-is-small a f = (rw f (r .sizes), omega (arith, the-value-has-room, r .store-short))
 
   pub an-accepted-ingest-is-stepped : (k : List ℕ) (used : ℕ) (rows′ keys′ : List (List ℕ)) (store′ : List ℕ) (reply : Report) (a : ℕ) (next : Work)
-      → (used ≡ w .used + length (entriesWith w k z (changeOf change value))) × (rows′ ≡ put rows (w .used) (rowsOf (entriesWith w k z (changeOf change value))))
-      × (keys′ ≡ put keys (w .used) (keysOf (entriesWith w k z (changeOf change value))))
-      → store′ ≡ put store (w .filled) x → replyOf reply ≡ reportBy (w .low) page (z .stop) (z .dropped) → a ≡ addedBy change → next ≡ workWith w k z used a (length x)
+      → (used ≡ w .used + length (entriesWith w k (z .stop) (z .taken) (changeOf change value))) × (rows′ ≡ put rows (w .used) (rowsOf (entriesWith w k (z .stop) (z .taken) (changeOf change value))))
+      × (keys′ ≡ put keys (w .used) (keysOf (entriesWith w k (z .stop) (z .taken) (changeOf change value))))
+      → store′ ≡ put store (w .filled) x → replyOf reply ≡ reportBy (w .low) page (z .stop) (z .dropped) → a ≡ addedBy change → next ≡ ingestWorkBy w k z used a (length x)
       → Stepped w page k z (changeOf change value) rows keys store (record { reply = reply; work = next }) rows′ keys′ store′
   an-accepted-ingest-is-stepped k used rows′ keys′ store′ reply a next u s p f n =
       record {

@@ -1,25 +1,25 @@
 -- What the functions below the call require and do, as plain facts. `page` is the page as the work regards it.
 -- `proofs/Ingests.antt` has what they require of all that earns no refusal.
 use mathlib.Core.Path.{_≡_}
-use mathlib.Core.Bool.{Bool, true, false, _&&_}
-use mathlib.Core.Option.{Option, none, some}
-use mathlib.Core.List.{List, [], _∷_, _++_, map}
+use mathlib.Core.Bool.{Bool, true, false}
+use mathlib.Core.Option.{Option}
+use mathlib.Core.List.{List, _++_, map}
 use Prim.Native.Nat.{ℕ, _+_, _-_, _≤_, _<_}
-use lib.Dec.{eqb, leb, ltb}
+use lib.Dec.{eqb, leb}
 use lib.ListN.{length, take, drop}
 use Rattle.refusal.specs.Refusal.{accepted, outOfTurn, longValue, keyTooLow, keyPastCutoff, listFull, storeFull}
 use Rattle.leaf_node.specs.Limits.{mostPageBytes, PageSize, valueLimit}
-use Rattle.leaf_node.specs.Page.{count, start, lengthAt, flagAt, valuesSize}
+use Rattle.leaf_node.specs.Page.{count, valuesSize}
 use Rattle.leaf_node.specs.Steps.{Laid, Sorted, Readable}
 use Rattle.leaf_node.specs.Build.{put}
 use Rattle.leaf_model.specs.Work.{Change, belowCutoff, inserted}
 use Rattle.leaf_work.specs.declared.Work.{Work}
 use Rattle.leaf_work.specs.declared.Entry.{Entry}
 use Rattle.leaf_work.specs.Tests.{bit}
-use Rattle.leaf_work.specs.Lent.{insertAt, chunkOf, mostEntries, mostStoreBytes, isOpen, cutoffOf}
+use Rattle.leaf_work.specs.Lent.{mostEntries, mostStoreBytes, isOpen, cutoffOf}
 use Rattle.leaf_work.specs.Flat.{listOf, rowOf, keysAfter}
 use Rattle.leaf_work.specs.Sound.{letsIn}
-use Rattle.leaf_work.specs.TakingUp.{valueOf, stop, drops, lowAfter}
+use Rattle.leaf_work.specs.TakingUp.{valueOf, entriesWith, stop, drops, lowAfter}
 use Rattle.leaf_work.specs.Verdict.{unless}
 use Rattle.leaf_work.specs.Outcome as outcome
 use Rattle.leaf_work.specs.Ready.{Ready}
@@ -107,17 +107,6 @@ addedBy Delete = 0
 
 -- ---- what it writes
 
--- no empty chunk is listed
-unfoldable pub chunkEntries : ℕ → ℕ → ℕ → List Entry
-chunkEntries low stop sum = elim (ltb low stop) [ true ↦ chunkOf low stop sum ∷ [] | false ↦ [] ]
-
--- a new value stands in the store from `at` on
-unfoldable pub insertEntries : ℕ → List ℕ → Option Change → List Entry
-insertEntries at k none = []
-insertEntries at k (some c) = insertAt at (at + length (c .value)) k (bit (c .flag)) ∷ []
-
-abbrev pub entriesWith : Work → List ℕ → Kept → Option Change → List Entry
-entriesWith w k z c = chunkEntries (w .low) (z .stop) (z .taken) ++ insertEntries (w .filled) k c
 
 abbrev pub rowsOf : List Entry → List (List ℕ)
 rowsOf es = map rowOf es
@@ -125,31 +114,10 @@ rowsOf es = map rowOf es
 abbrev pub keysOf : List Entry → List (List ℕ)
 keysOf es = map (λ e. e .key) es
 
--- "only when the dropped record has its flag set and at least one base record was taken up just before it in the same call"
-unfoldable pub reportBy : ℕ → List ℕ → ℕ → Bool → outcome.IngestReply
-reportBy low page stop dropped = elim (dropped && (flagAt page stop && ltb low stop)) [
-  | true ↦ outcome.Reported (start page stop) (lengthAt page stop)
-  | false ↦ outcome.Quiet
-]
-
-abbrev pub workWith : Work → List ℕ → Kept → ℕ → ℕ → ℕ → Work
-workWith w k z used added len = record {
-  turn = w .turn;
-  based = w .based;
-  low = z .low;
-  used = used;
-  filled = w .filled + len;
-  count = w .count + (z .stop - w .low) + added;
-  bytes = w .bytes + z .taken + len;
-  latest = w .latest;
-  cut = w .cut;
-  cutoff = w .cutoff;
-  over = w .over;
-  overriding = w .overriding;
-  floor = w .floor;
-  taken = 1;
-  last = k;
-}
+-- the work record after an ingest, by what the key takes up
+abbrev pub ingestWorkBy : Work → List ℕ → Kept → ℕ → ℕ → ℕ → Work
+ingestWorkBy w k z used added len =
+    outcome.takenWork w k (z .low) used (w .filled + len) (w .count + (z .stop - w .low) + added) (w .bytes + z .taken + len)
 
 -- room for what an accepted ingest writes
 pub record Room (w : Work) (page : List ℕ) (z : Kept) (added len : ℕ) (rows keys : List (List ℕ)) (store : List ℕ) : Type 0 where
@@ -162,10 +130,10 @@ pub record Room (w : Work) (page : List ℕ) (z : Kept) (added len : ℕ) (rows 
 
 -- an accepted ingest
 pub record Stepped (w : Work) (page k : List ℕ) (z : Kept) (c : Option Change) (rows keys : List (List ℕ)) (store : List ℕ) (r : Ingested) (rows′ keys′ : List (List ℕ)) (store′ : List ℕ) : Type 0 where
-  pub reply-is : replyOf (r .reply) ≡ reportBy (w .low) page (z .stop) (z .dropped)
-  pub work-is : r .work ≡ workWith w k z (w .used + length (entriesWith w k z c)) (length (inserted k c)) (length (valueOf c))
-  pub rows-is : rows′ ≡ put rows (w .used) (rowsOf (entriesWith w k z c))
-  pub keys-is : keys′ ≡ put keys (w .used) (keysOf (entriesWith w k z c))
+  pub reply-is : replyOf (r .reply) ≡ outcome.reportBy (w .low) page (z .stop) (z .dropped)
+  pub work-is : r .work ≡ ingestWorkBy w k z (w .used + length (entriesWith w k (z .stop) (z .taken) c)) (length (inserted k c)) (length (valueOf c))
+  pub rows-is : rows′ ≡ put rows (w .used) (rowsOf (entriesWith w k (z .stop) (z .taken) c))
+  pub keys-is : keys′ ≡ put keys (w .used) (keysOf (entriesWith w k (z .stop) (z .taken) c))
   pub store-is : store′ ≡ put store (w .filled) (valueOf c)
 
 -- ---- the call

@@ -30,10 +30,10 @@ ghost use Rattle.leaf_node.specs.Steps.{Laid, Readable};
 ghost use Rattle.leaf_work.specs.Tests.{bit};
 ghost use Rattle.leaf_work.specs.Lent.{regarded};
 ghost use Rattle.leaf_work.specs.Flat.{listOf, keysAfter};
-ghost use Rattle.leaf_work.specs.TakingUp.{valueOf, newEntries};
+ghost use Rattle.leaf_work.specs.TakingUp.{valueOf, chunkEntries, insertEntries, entriesWith, newEntries};
 ghost use Rattle.leaf_work.specs.Outcome as outcome;
 ghost use Rattle.leaf_ingest.specs.Reply.{changeOf, replyOf};
-ghost use Rattle.leaf_ingest.specs.Steps.{Base, KeptAt, Taken, Sizes, roomVerdict, stepVerdict, addedBy, chunkEntries, insertEntries, entriesWith, rowsOf, keysOf, reportBy, workWith, Room, Stepped, rowsWith, Leaves, Admits, Takes};
+ghost use Rattle.leaf_ingest.specs.Steps.{Base, KeptAt, Taken, Sizes, roomVerdict, stepVerdict, addedBy, rowsOf, keysOf, ingestWorkBy, Room, Stepped, rowsWith, Leaves, Admits, Takes};
 
 // A new value with its flag, or a deletion. The value's bytes stand beside it; a deletion ignores them.
 pub enum Change {
@@ -276,7 +276,7 @@ fn put_entries(
     value: &[u8],
 ) -> usize
     requires { ⌜ (work .low ≤ kept .stop) × (work .used + (kept .stop - work .low) + addedBy change ≤ length (now rows)) × (length (now rows) ≡ length (now keys)) × (work .filled + length (valueOf (changeOf change (now value))) ≤ 65536) ⌝ }
-    ensures { λ r. ⌜ (r ≡ work .used + length (entriesWith work (now (key .entry)) kept (changeOf change (now (value .entry))))) × (now (rows .exit) ≡ put (now (rows .entry)) (work .used) (rowsOf (entriesWith work (now (key .entry)) kept (changeOf change (now (value .entry)))))) × (now (keys .exit) ≡ put (now (keys .entry)) (work .used) (keysOf (entriesWith work (now (key .entry)) kept (changeOf change (now (value .entry)))))) ⌝ }
+    ensures { λ r. ⌜ (r ≡ work .used + length (entriesWith work (now (key .entry)) (kept .stop) (kept .taken) (changeOf change (now (value .entry))))) × (now (rows .exit) ≡ put (now (rows .entry)) (work .used) (rowsOf (entriesWith work (now (key .entry)) (kept .stop) (kept .taken) (changeOf change (now (value .entry)))))) × (now (keys .exit) ≡ put (now (keys .entry)) (work .used) (keysOf (entriesWith work (now (key .entry)) (kept .stop) (kept .taken) (changeOf change (now (value .entry)))))) ⌝ }
 {
     let at = put_chunk(rows, keys, work.used, work.low, kept.stop, kept.taken);
     put_insert(rows, keys, at, work.filled, key, change, value)
@@ -285,7 +285,7 @@ fn put_entries(
 // A flagged record that is dropped is reported where one was taken up before it.
 pub fn report_of(low: usize, page: &[u8], kept: Kept) -> Report
     requires { ⌜ (kept .dropped ≡ true → Readable (now page) (kept .stop)) ⌝ }
-    ensures { λ r. ⌜ replyOf r ≡ reportBy low (now (page .entry)) (kept .stop) (kept .dropped) ⌝ }
+    ensures { λ r. ⌜ replyOf r ≡ outcome.reportBy low (now (page .entry)) (kept .stop) (kept .dropped) ⌝ }
 {
     if !kept.dropped {
         return Report::Quiet;
@@ -309,7 +309,7 @@ pub fn ingest_work(
     len: usize,
 ) -> Work
     requires { ⌜ (Sizes work kept added) × (work .filled + len ≤ 65536) ⌝ }
-    ensures { λ r. ⌜ r ≡ workWith work (now (key .entry)) kept used added len ⌝ }
+    ensures { λ r. ⌜ r ≡ ingestWorkBy work (now (key .entry)) kept used added len ⌝ }
 {
     let last = *key;
     let mut next = work;

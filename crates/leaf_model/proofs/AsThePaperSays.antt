@@ -13,7 +13,7 @@ use Rattle.leaf_node.specs.Limits.{bodyLimit, PageSize}
 use Rattle.leaf_node.specs.Record.{Record, cost, body}
 use Rattle.leaf_node.specs.Fits.{All}
 use Rattle.leaf_model.specs.Cut.{Cut, nothingCut, withLeaf, targetOf, Taken, takeUntil, takeLeaves, cutAsWritten, cut, cutAll}
-use Rattle.leaf_model.specs.Work.{Work, pending, finished, plan, leavesOf, workAfter, given, digested}
+use Rattle.leaf_model.specs.Work.{Work, current, pending, finished, plan, leavesBy, workAfter, given, digested}
 use Rattle.leaf_model.proofs.Lists.{all-head, all-tail, all-map, all-right, body-append}
 use Rattle.leaf_model.proofs.Cutting.{cut-over-reaching, cut-over, cut-reaching, cut-further, Fitting, limits-agree}
 
@@ -129,9 +129,9 @@ module _ (size : ℕ) (p : PageSize size) where
 
   -- so a digest, all five steps, is given by the paper's cutting
   pub digest-as-the-paper-says : (w : Work) → All (Fitting size) (pending w)
-      → (given size w ≡ leavesOf w (finished size (w .cutoff) (cutAsWritten size (pending w))))
+      → (given size w ≡ leavesBy (current w) (w .cutoff) (finished size (w .cutoff) (cutAsWritten size (pending w))))
       × (digested size w ≡ workAfter w (finished size (w .cutoff) (cutAsWritten size (pending w))))
   unfolding plan
   digest-as-the-paper-says w a =
       let e = cutting-as-the-paper-says (pending w) a in
-      (ap (λ c. leavesOf w (finished size (w .cutoff) c)) e, ap (λ c. workAfter w (finished size (w .cutoff) c)) e)
+      (ap (λ c. leavesBy (current w) (w .cutoff) (finished size (w .cutoff) c)) e, ap (λ c. workAfter w (finished size (w .cutoff) c)) e)

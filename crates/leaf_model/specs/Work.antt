@@ -191,10 +191,7 @@ floorAfter floor cutoff (r ∷ rs) = orElse cutoff floor
 abbrev pub leavesBy : List ℕ → Option (List ℕ) → Cut → List Leaf
 leavesBy separator cutoff p = withSeparators separator cutoff (nonempty (p .left)) (p .leaves) (p .left)
 
--- the leaves that a digest gives, and the work after it, by what it cuts and keeps
-abbrev pub leavesOf : Work → Cut → List Leaf
-leavesOf w c = leavesBy (current w) (w .cutoff) c
-
+-- the work after a digest, by what it cuts and keeps
 abbrev pub workAfter : Work → Cut → Work
 workAfter w c = record {
   turn = turnAfter (c .left);
@@ -212,7 +209,7 @@ abbrev pub planned : ℕ → Work → Cut
 planned size w = plan size (w .cutoff) (pending w)
 
 abbrev pub given : ℕ → Work → List Leaf
-given size w = leavesOf w (planned size w)
+given size w = leavesBy (current w) (w .cutoff) (planned size w)
 
 abbrev pub digested : ℕ → Work → Work
 digested size w = workAfter w (planned size w)

@@ -26,7 +26,7 @@ use Rattle.leaf_check.proofs.Results.{no-page}
 use Rattle.leaf_check.proofs.Sounds.{the-pass-sees, it-begins-small}
 use Rattle.leaf_check.proofs.Verdicts.{the-regarded-is-good}
 use Rattle.leaf_passed.specs.declared.Passing.{Passing}
-use Rattle.leaf_passed.specs.Passed.{goes, beginning, beginningOf, closedBeginning, pageNumber, seen, withPass, passedOne, PassingOn}
+use Rattle.leaf_passed.specs.Passed.{goes, beginning, beginningOf, closedBeginning, seen, withPass, passedOne, PassingOn}
 
 -- ---- whether it goes
 

@@ -5,8 +5,9 @@ use Prim.Native.Nat.{ℕ, _-_, _≤_, _<_}
 use native.Mathlib.Omega.{arith}
 use borrow.Author.Tests.{eq-eqb, ne-eqb, lt-ltb, le-ltb}
 use Rattle.leaf_work.specs.declared.Entry.{Entry}
+use Rattle.leaf_work.specs.Pending.{recordsIn}
 use Rattle.leaf_passed.specs.declared.Seek.{Seek}
-use Rattle.leaf_passed.specs.Sought.{recordsIn, soughtOne}
+use Rattle.leaf_passed.specs.Sought.{soughtOne}
 
 module _ (e : Entry) where
   pub an-insert-is-one-record : e .kind ≡ 1 → 1 ≡ recordsIn e

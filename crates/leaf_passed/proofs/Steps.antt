@@ -15,7 +15,7 @@ use Rattle.leaf_work.specs.Tests.{every, oneOf, isZero}
 use Rattle.leaf_work.specs.Lent.{roomRight, mostEntries, mostStoreBytes}
 use Rattle.leaf_work.specs.Verdict.{first}
 use Rattle.leaf_pass.specs.Pass.{Seeing, Small}
-use Rattle.leaf_check.specs.Settled.{boundsOf, settled}
+use Rattle.leaf_check.specs.Settled.{boundsOf, passRight}
 use Rattle.leaf_passed.specs.declared.Passing.{Passing}
 use Rattle.leaf_passed.specs.Passed.{seen, PassingOn, soundAt, lentAt, closedAt}
 
@@ -58,9 +58,9 @@ module _ (size : ℕ) (w : Work) (at : Passing) (entries : ℕ) (store page : Li
           unfolding soundAt
           a-wrong-entry-is-unsound h = rw (not-false (at .go) g, not-false (leb (w .used) entries && leb (w .filled) (length store)) i, ← e, not-false z c, not-true (at .pass .right) h)
 
-          pub what-is-settled-is-sound : not (at .pass .right) ≡ false → (r : Bool) → r ≡ settled size w (at .pass) page entries (length store) → r ≡ soundAt size w at entries store page
+          pub what-is-right-is-sound : not (at .pass .right) ≡ false → (r : Bool) → r ≡ passRight size w (at .pass) page entries (length store) → r ≡ soundAt size w at entries store page
           unfolding soundAt
-          what-is-settled-is-sound h r f = rw (not-false (at .go) g, not-false (leb (w .used) entries && leb (w .filled) (length store)) i, ← e, not-false z c) (f ∙ true-and (at .pass .right) _ (not-false (at .pass .right) h))
+          what-is-right-is-sound h r f = rw (not-false (at .go) g, not-false (leb (w .used) entries && leb (w .filled) (length store)) i, ← e, not-false z c) (f ∙ true-and (at .pass .right) _ (not-false (at .pass .right) h))
 
 -- ---- Nos. 1 to 8
 

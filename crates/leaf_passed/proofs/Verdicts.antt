@@ -17,16 +17,16 @@ use Rattle.leaf_work.specs.declared.Entry.{Entry}
 use Rattle.leaf_work.specs.Tests.{every, oneOf, isZero}
 use Rattle.leaf_work.specs.Lent.{mostEntries, mostStoreBytes, roomRight, isOpen, separatorOf, readsBase, regarded}
 use Rattle.leaf_work.specs.Sound.{sound}
-use Rattle.leaf_work.specs.Verdict.{unless, first, lentVerdict}
+use Rattle.leaf_work.specs.Verdict.{unless, first, lentPageVerdict, lentVerdict}
 use Rattle.leaf_pass.specs.declared.Pass.{Pass}
 use Rattle.leaf_pass.specs.declared.Bounds.{Bounds}
 use Rattle.leaf_pass.specs.Pass.{passed, passedAll, begun}
-use Rattle.leaf_check.specs.Settled.{Regardable, boundsOf, recordRight, within, settled, entriesSound, soundBy}
+use Rattle.leaf_check.specs.Settled.{Regardable, boundsOf, recordRight, within, entriesSound, soundBy}
 use Rattle.leaf_check.proofs.Results.{no-page}
 use Rattle.leaf_check.proofs.Decided.{the-pass-decides}
 use Rattle.leaf_check.proofs.Verdicts.{the-regarded-is-good}
 use Rattle.leaf_passed.specs.declared.Passing.{Passing}
-use Rattle.leaf_passed.specs.Passed.{goes, beginning, pageNumber, beginningOf, closedBeginning, seen, withPass, passedOne, passedOver, soundAt, lentAt, closedAt}
+use Rattle.leaf_passed.specs.Passed.{goes, beginning, beginningOf, closedBeginning, seen, withPass, passedOne, passedOver, soundAt, lentAt, closedAt}
 
 -- ---- what a pass over a list comes to
 
@@ -141,7 +141,7 @@ module _ (size : ℕ) (q : PageSize size) (w : Work) (list : List Entry) (store 
 
 module _ (size : ℕ) (q : PageSize size) (w : Work) (list : List Entry) (store page : List ℕ) where
   abbrev number : ℕ
-  number = pageNumber size w page
+  number = lentPageVerdict size w page
 
   refused-page : (number ≡ 0 → ⊥) → beginningOf size w page ≡ beginning size w number (readsBase w) 0
   unfolding beginningOf

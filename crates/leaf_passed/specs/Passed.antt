@@ -11,11 +11,11 @@ use Rattle.leaf_node.specs.Page.{count}
 use Rattle.leaf_work.specs.declared.Work.{Work}
 use Rattle.leaf_work.specs.declared.Entry.{Entry}
 use Rattle.leaf_work.specs.Tests.{every, oneOf, isZero}
-use Rattle.leaf_work.specs.Lent.{mostEntries, mostStoreBytes, roomRight, isOpen, cutoffOf, separatorOf, readsBase, regarded}
-use Rattle.leaf_work.specs.Verdict.{unless, first, keysVerdict}
+use Rattle.leaf_work.specs.Lent.{mostEntries, mostStoreBytes, roomRight, isOpen, separatorOf, readsBase, regarded}
+use Rattle.leaf_work.specs.Verdict.{unless, first, lentPageVerdict}
 use Rattle.leaf_pass.specs.declared.Pass.{Pass}
 use Rattle.leaf_pass.specs.Pass.{Seeing, Small, passed, begun}
-use Rattle.leaf_check.specs.Settled.{boundsOf, recordRight, settled}
+use Rattle.leaf_check.specs.Settled.{boundsOf, recordRight, passRight}
 use Rattle.leaf_passed.specs.declared.Passing.{Passing}
 
 -- ---- how it begins
@@ -35,16 +35,12 @@ beginning size w number reads n = record {
   pass = begun (separatorOf w);
 }
 
--- Nos. 1 to 6 of the lent page, where the work reads it
-abbrev pub pageNumber : ℕ → Work → List ℕ → ℕ
-pageNumber size w page = oneOf (readsBase w) (keysVerdict size page (w .latest) (cutoffOf w)) accepted
-
 -- a bad page isn't counted
 unfoldable pub beginningOf : ℕ → Work → List ℕ → Passing
 beginningOf size w page =
-    oneOf (isZero (pageNumber size w page))
+    oneOf (isZero (lentPageVerdict size w page))
     (beginning size w accepted (readsBase w) (count (regarded w page)))
-    (beginning size w (pageNumber size w page) (readsBase w) 0)
+    (beginning size w (lentPageVerdict size w page) (readsBase w) 0)
 
 -- "A work that .. waits or is done ignores the lent page": there is none
 unfoldable pub closedBeginning : ℕ → Work → Passing
@@ -78,7 +74,7 @@ unfoldable pub soundAt : ℕ → Work → Passing → ℕ → List ℕ → List 
 soundAt size w at entries store page =
     at .go
     && ((leb (w .used) entries && leb (w .filled) (length store))
-    && (every isZero (drop (w .filled) store) && (at .pass .right && settled size w (at .pass) page entries (length store))))
+    && (every isZero (drop (w .filled) store) && (at .pass .right && passRight size w (at .pass) page entries (length store))))
 
 -- Nos. 1 to 8 of a call that is lent work, list, store and page
 unfoldable pub lentAt : ℕ → Work → Passing → ℕ → List ℕ → List ℕ → ℕ

@@ -4,12 +4,9 @@ use mathlib.Core.List.{List, [], _∷_}
 use Prim.Native.Nat.{ℕ, _-_}
 use lib.Dec.{ltb}
 use Rattle.leaf_work.specs.declared.Entry.{Entry}
-use Rattle.leaf_work.specs.Lent.{blank, anInsert}
+use Rattle.leaf_work.specs.Lent.{blank}
+use Rattle.leaf_work.specs.Pending.{recordsIn}
 use Rattle.leaf_passed.specs.declared.Seek.{Seek}
-
--- an insert is one record, a chunk as many as it names
-abbrev pub recordsIn : Entry → ℕ
-recordsIn e = elim (anInsert e) [ true ↦ 1 | false ↦ e .to - e .from ]
 
 abbrev pub soughtBy : Seek → Entry → Bool → Bool → Seek
 soughtBy s e true less = s

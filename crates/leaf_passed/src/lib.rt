@@ -3,7 +3,7 @@ use leaf_base::MOST_ENTRIES;
 use leaf_base::MOST_STORE_BYTES;
 use leaf_check::begin;
 use leaf_check::bounds_of;
-use leaf_check::is_settled;
+use leaf_check::is_pass_right;
 use leaf_check::page_verdict;
 use leaf_check::reads_base;
 use leaf_check::record_right;
@@ -29,11 +29,12 @@ ghost use Rattle.leaf_node.specs.Limits.{PageSize};
 ghost use Rattle.leaf_node.specs.Page.{count};
 ghost use Rattle.leaf_work.specs.Tests.{oneOf};
 ghost use Rattle.leaf_work.specs.Lent.{roomRight, regarded};
+ghost use Rattle.leaf_work.specs.Pending.{recordsIn};
 ghost use Rattle.leaf_work.specs.Sound.{isBlank};
 ghost use Rattle.leaf_pass.specs.Pass.{Seeing, Small};
 ghost use Rattle.leaf_check.specs.Settled.{boundsOf};
 ghost use Rattle.leaf_passed.specs.Passed.{goes, beginning, beginningOf, closedBeginning, seen, passedOne, PassingOn, soundAt, lentAt, closedAt};
-ghost use Rattle.leaf_passed.specs.Sought.{recordsIn, soughtOne, seekFrom};
+ghost use Rattle.leaf_passed.specs.Sought.{soughtOne, seekFrom};
 ghost use Rattle.leaf_passed.specs.Behind.{lesserOf, unusedFrom, unusedOne, marked};
 
 // A pass over a list: the refusal that the page has earned, or 0; whether the entries are looked at; whether the page is read, and how many
@@ -253,7 +254,7 @@ fn is_sound_at(
     if !at.pass.right {
         return false;
     }
-    is_settled(
+    is_pass_right(
         work,
         at.pass,
         at.bounds,

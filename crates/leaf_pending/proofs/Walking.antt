@@ -21,13 +21,13 @@ use Rattle.leaf_work.specs.declared.Work.{Work}
 use Rattle.leaf_work.specs.declared.Entry.{Entry}
 use Rattle.leaf_work.specs.Lent.{blank}
 use Rattle.leaf_work.specs.Flat.{entryOf, entriesOf, listOf}
-use Rattle.leaf_work.specs.Pending.{Place, inBase, chunkPlaces, insertPlace, entryPlaces, placesOf, restPlaces, pendingPlaces}
+use Rattle.leaf_work.specs.Pending.{Place, inBase, chunkPlaces, insertPlace, entryPlaces, recordsIn, placesOf, restPlaces, pendingPlaces}
 use Rattle.leaf_work.specs.Outcome.{TwinRefused, Found, nthPlace}
 use Rattle.leaf_work.specs.Ready.{EntryIn}
 use Rattle.leaf_work.proofs.FlatList.{length-entries, entry-at, rows-and-keys-agree}
 use Rattle.leaf_pending.specs.declared.TwinPlace.{TwinPlace}
 use Rattle.leaf_pending.specs.Reply.{twinOut}
-use Rattle.leaf_pending.specs.Steps.{rowRecords, Countable, Rest, EntryRead, Walk}
+use Rattle.leaf_pending.specs.Steps.{Countable, Rest, EntryRead, Walk}
 
 -- ---- the place with an index
 
@@ -84,13 +84,11 @@ module _ (p : List ℕ) (low i n : ℕ) (r : Rest p low) (e : n ≡ count p) whe
 
 -- ---- an entry
 
-pub insert-has-one-record : (row : List ℕ) → getD row 0 0 ≡ 1 → 1 ≡ rowRecords row
-unfolding rowRecords
-insert-has-one-record row e = rw e
+pub insert-has-one-record : (row : List ℕ) → getD row 0 0 ≡ 1 → 1 ≡ recordsIn (entryOf row [])
+insert-has-one-record row e = rw (eq-eqb (getD row 0 0) 1 e, recordsIn)
 
-pub chunk-has-many-records : (row : List ℕ) → (getD row 0 0 ≡ 1 → ⊥) → getD row 3 0 - getD row 2 0 ≡ rowRecords row
-unfolding rowRecords
-chunk-has-many-records row h = rw (ne-eqb (getD row 0 0) 1 h)
+pub chunk-has-many-records : (row : List ℕ) → (getD row 0 0 ≡ 1 → ⊥) → getD row 3 0 - getD row 2 0 ≡ recordsIn (entryOf row [])
+chunk-has-many-records row h = rw (ne-eqb (getD row 0 0) 1 h, recordsIn)
 
 module _ (p row key : List ℕ) where
   insert-places : getD row 0 0 ≡ 1 → entryPlaces p (entryOf row key) ≡ insertPlace (entryOf row key) ∷ []
@@ -101,16 +99,16 @@ module _ (p row key : List ℕ) where
   unfolding entryPlaces chunkPlaces
   chunk-places n = rw (entryPlaces, ne-eqb (getD row 0 0) 1 n)
 
-  pub entry-length : length (entryPlaces p (entryOf row key)) ≡ rowRecords row
+  pub entry-length : length (entryPlaces p (entryOf row key)) ≡ recordsIn (entryOf row key)
   entry-length = go (eqb (getD row 0 0) 1) refl
     where
-      go : (b : Bool) → eqb (getD row 0 0) 1 ≡ b → length (entryPlaces p (entryOf row key)) ≡ rowRecords row
+      go : (b : Bool) → eqb (getD row 0 0) 1 ≡ b → length (entryPlaces p (entryOf row key)) ≡ recordsIn (entryOf row key)
       go true e = let k : getD row 0 0 ≡ 1 = eqb-true _ _ e in ap length (insert-places k) ∙ insert-has-one-record row k
       go false e =
           let n : getD row 0 0 ≡ 1 → ⊥ = eqb-false _ _ e in
           ap length (chunk-places n) ∙ length-run (getD row 3 0 - getD row 2 0) (getD row 2 0) (inBase p) ∙ chunk-has-many-records row n
 
-module _ (p row key : List ℕ) (i : ℕ) (r : EntryRead p (entryOf row key)) (h : i < rowRecords row) where
+module _ (p row key : List ℕ) (i : ℕ) (r : EntryRead p (entryOf row key)) (h : i < recordsIn (entryOf row key)) where
   module _ (n : getD row 0 0 ≡ 1 → ⊥) where
     chunk-order : getD row 2 0 + i < getD row 3 0
     chunk-order = omega (arith, chunk-has-many-records row n)
@@ -179,7 +177,7 @@ module _ (w : Work) (rows keys : List (List ℕ)) (p : List ℕ) (walk : Walk w 
       let e : w .used - j ≡ suc (w .used - suc j) = omega arith in
       rw (e, drop-cons (listOf rows keys) j blank (omega (arith, walk .used-in)), entry-is, append-assoc)
 
-  module _ (i left n : ℕ) (inv : twinFrom w (listOf rows keys) p 0 i ≡ twinFrom w (listOf rows keys) p j left) (q : n ≡ rowRecords (getD rows j [])) where
+  module _ (i left n : ℕ) (inv : twinFrom w (listOf rows keys) p 0 i ≡ twinFrom w (listOf rows keys) p j left) (q : n ≡ recordsIn (entryOf (getD rows j []) [])) where
     many : length here ≡ n
     many = entry-length p (getD rows j []) (getD keys j []) ∙ sym q
 

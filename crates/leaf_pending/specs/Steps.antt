@@ -1,9 +1,7 @@
 -- What the functions below the calls require, as plain facts; `proofs/Twins.antt` has them of all that earns no refusal.
 use mathlib.Core.Path.{_≡_}
-use mathlib.Core.Bool.{cond}
 use mathlib.Core.List.{List}
-use Prim.Native.Nat.{ℕ, _+_, _-_, _≤_, _<_}
-use lib.Dec.{eqb}
+use Prim.Native.Nat.{ℕ, _+_, _≤_, _<_}
 use lib.ListN.{length, getD}
 use Rattle.leaf_node.specs.Page.{count}
 use Rattle.leaf_node.specs.Steps.{Laid}
@@ -14,10 +12,6 @@ use Rattle.leaf_work.specs.Pending.{Store, Base}
 use Rattle.leaf_work.specs.Ready.{EntryIn}
 use Rattle.leaf_pending.specs.declared.TwinPlace.{TwinPlace}
 use Rattle.leaf_pending.specs.Reply.{holderNumber}
-
--- "an insert .. or a chunk of the base": how many records the entry in a row has
-unfoldable pub rowRecords : List ℕ → ℕ
-rowRecords row = cond (eqb (getD row 0 0) 1) 1 (getD row 3 0 - getD row 2 0)
 
 -- a page with records is a good one
 pub record Countable (page : List ℕ) : Type 0 where

@@ -9,15 +9,16 @@ use leaf_node::key_at;
 use leaf_work::Work;
 use refusal::NO_SUCH_INDEX;
 ghost use mathlib.Core.Path.{_≡_};
+ghost use mathlib.Core.List.{[]};
 ghost use Prim.Native.Nat.{_+_, _<_, _≤_};
 ghost use lib.ListN.{length, getD, take, drop};
 ghost use Rattle.leaf_node.specs.Page.{count};
 ghost use Rattle.leaf_node.specs.Steps.{Readable};
 ghost use Rattle.leaf_work.specs.Flat.{entryOf, listOf};
-ghost use Rattle.leaf_work.specs.Pending.{inBase, chunkPlaces, entryPlaces, pendingPlaces};
+ghost use Rattle.leaf_work.specs.Pending.{inBase, chunkPlaces, entryPlaces, recordsIn, pendingPlaces};
 ghost use Rattle.leaf_work.specs.Outcome.{TwinRefused, Found, nthPlace, twinOf, partOf};
 ghost use Rattle.leaf_pending.specs.Reply.{twinOut, twinPart};
-ghost use Rattle.leaf_pending.specs.Steps.{rowRecords, Countable, Rest, EntryRead, Walk, TwinIn};
+ghost use Rattle.leaf_pending.specs.Steps.{Countable, Rest, EntryRead, Walk, TwinIn};
 
 // Holders by number.
 pub const STORE: u8 = 1;
@@ -94,10 +95,10 @@ pub fn rest_record(page: &[u8], low: usize, i: usize) -> TwinPlace
 
 // ---- the entries
 
-// How many records an entry has.
+// How many records the entry in a row has, whatever its key.
 fn records_of(row: [usize; 5]) -> usize
     requires { ⌜ getD row 2 0 ≤ getD row 3 0 ⌝ }
-    ensures { λ r. ⌜ r ≡ rowRecords row ⌝ }
+    ensures { λ r. ⌜ r ≡ recordsIn (entryOf row []) ⌝ }
 {
     if row[0] == 1 {
         return 1;
@@ -107,7 +108,7 @@ fn records_of(row: [usize; 5]) -> usize
 
 // Record i of an entry.
 pub fn entry_record(row: [usize; 5], key: [u8; 32], page: &[u8], i: usize) -> TwinPlace
-    requires { ⌜ (EntryRead (now page) (entryOf row key)) × (i < rowRecords row) ⌝ }
+    requires { ⌜ (EntryRead (now page) (entryOf row key)) × (i < recordsIn (entryOf row key)) ⌝ }
     ensures { λ r. ⌜ r ≡ twinOut (nthPlace i (entryPlaces (now (page .entry)) (entryOf row key))) ⌝ }
 {
     if row[0] != 1 {

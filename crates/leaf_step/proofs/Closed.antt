@@ -17,12 +17,11 @@ use Rattle.leaf_work.specs.declared.Work.{Work}
 use Rattle.leaf_work.specs.declared.Entry.{Entry}
 use Rattle.leaf_work.specs.Tests.{oneOf}
 use Rattle.leaf_work.specs.Lent.{mostEntries, mostStoreBytes, roomRight}
-use Rattle.leaf_work.specs.Verdict.{baseVerdict, nextBaseVerdict, removeVerdict}
+use Rattle.leaf_work.specs.Verdict.{baseVerdict, closedVerdict, followsVerdict, nextBaseVerdict, removeVerdict}
 use Rattle.leaf_base.proofs.Bases.{first-refused}
 use Rattle.leaf_work.proofs.BasePages.{base-page-is-good}
 use Rattle.leaf_pass.specs.Pass.{Seeing}
 use Rattle.leaf_check.specs.Settled.{boundsOf}
-use Rattle.leaf_again.specs.Again.{closedVerdict, followsVerdict}
 use Rattle.leaf_again.proofs.Again.{next-base-by-steps, closed-room, the-work-comes-before-the-turn, a-work-that-does-not-wait-is-out-of-turn, a-waiting-work-is-accepted}
 use Rattle.leaf_passed.specs.declared.Passing.{Passing}
 use Rattle.leaf_passed.specs.Passed.{PassingOn, beginning, closedBeginning, passedOver, closedAt}
@@ -60,8 +59,7 @@ module _ (w : Work) (at : Passing) (entries : ℕ) (h : ClosedOver w at entries)
 
 module _ (w : Work) (at : Passing) (entries : ℕ) (store : List ℕ) (v : ℕ) (e : v ≡ closedAt 4096 w at entries store) (list : List Entry) (any : List ℕ) (l : length list ≡ entries)
     (k : at ≡ passedOver any (closedBeginning 4096 w) list) where
-  closed-number : v ≡ closedVerdict 4096 w list store
-  unfolding closedVerdict
+  closed-number : v ≡ closedVerdict 4096 w list store 0
   closed-number = e ∙ rw (k, ← l) (a-pass-tells-a-closed-refusal 4096 a-page-has-4096-bytes w list store any)
 
   pub a-closed-refusal-refuses-the-removal : (v ≡ 0 → ⊥) → v ≡ removeVerdict 4096 w list store

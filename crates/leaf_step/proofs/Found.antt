@@ -4,7 +4,7 @@ use mathlib.Core.Bool.{Bool, true, false}
 use mathlib.Core.List.{List, [], _∷_, _++_, append-assoc, append-nil}
 use Prim.Native.Nat.{ℕ, zero, suc, _-_, _≤_, _<_}
 use native.Mathlib.Omega.{arith}
-use lib.Dec.{eqb, ltb}
+use lib.Dec.{ltb}
 use lib.ListN.{length, getD, take, drop, replicate, take-append-drop}
 use borrow.Author.Tests.{ltb-true, ltb-false}
 use Rattle.leaf_node.specs.Page.{count}
@@ -16,40 +16,32 @@ use Rattle.leaf_work.specs.declared.Entry.{Entry}
 use Rattle.leaf_work.specs.Tests.{oneOf, isZero}
 use Rattle.leaf_work.specs.Lent.{blank, regarded, readsBase}
 use Rattle.leaf_work.specs.Flat.{entryOf, rowOf}
-use Rattle.leaf_work.specs.Pending.{Place, chunkPlaces, entryPlaces, placesOf, restPlaces, pendingPlaces}
-use Rattle.leaf_work.specs.Verdict.{lentVerdict}
+use Rattle.leaf_work.specs.Pending.{Place, chunkPlaces, entryPlaces, recordsIn, placesOf, restPlaces, pendingPlaces}
+use Rattle.leaf_work.specs.Verdict.{lentPageVerdict, lentVerdict}
 use Rattle.leaf_work.specs.Outcome.{TwinRefused, nthPlace, twinOf, partOf}
 use Rattle.leaf_work.proofs.Decoding.{Shape, insert, keep}
 use Rattle.leaf_work.proofs.Readiness as readiness
 use Rattle.leaf_check.specs.Settled.{boundsOf}
 use Rattle.leaf_pending.specs.declared.TwinPlace.{TwinPlace}
 use Rattle.leaf_pending.specs.Reply.{twinOut, twinPart}
-use Rattle.leaf_pending.specs.Steps.{rowRecords, Countable, Rest, EntryRead, Walk, TwinIn}
+use Rattle.leaf_pending.specs.Steps.{Countable, Rest, EntryRead, Walk, TwinIn}
 use Rattle.leaf_pending.proofs.Walking.{nth-left, nth-right, entry-length, walk-rest}
 use Rattle.leaf_pending.proofs.Twins.{accepted-walk, refused-twin, accepted-twin, place-of-the-part, part-of-the-twin}
 use Rattle.leaf_passed.specs.declared.Passing.{Passing}
 use Rattle.leaf_passed.specs.declared.Seek.{Seek}
-use Rattle.leaf_passed.specs.Passed.{PassingOn, pageNumber, beginningOf, passedOver, lentAt}
-use Rattle.leaf_passed.specs.Sought.{recordsIn, soughtBy, soughtOne, soughtOver, seekFrom}
+use Rattle.leaf_passed.specs.Passed.{PassingOn, beginningOf, passedOver, lentAt}
+use Rattle.leaf_passed.specs.Sought.{soughtBy, soughtOne, soughtOver, seekFrom}
 use Rattle.leaf_passed.proofs.Verdicts.{the-bounds-stay, a-pass-tells-the-refusal}
 use Rattle.leaf_step.specs.Over.{Over, SoughtOver}
 use Rattle.leaf_step.proofs.Closed.{a-page-has-4096-bytes}
 
 -- ---- an entry and its row
 
-row-records : (e : Entry) → recordsIn e ≡ rowRecords (rowOf e)
-unfolding rowRecords
-row-records e = go (eqb (e .kind) 1) refl
-  where
-    go : (b : Bool) → eqb (e .kind) 1 ≡ b → recordsIn e ≡ rowRecords (rowOf e)
-    go true h = rw (recordsIn, h)
-    go false h = rw (recordsIn, h)
-
 places-number : (p : List ℕ) (e : Entry) → length (entryPlaces p e) ≡ recordsIn e
-places-number p e = entry-length p (rowOf e) (e .key) ∙ sym (row-records e)
+places-number p e = entry-length p (rowOf e) (e .key)
 
-pub a-row-has-its-entrys-records : (p : List ℕ) (e : Entry) (i : ℕ) → (EntryRead p e) × (i < recordsIn e) → (EntryRead p (entryOf (rowOf e) (e .key))) × (i < rowRecords (rowOf e))
-a-row-has-its-entrys-records p e i h = (h .0, rw (← row-records e) (h .1))
+pub a-row-has-its-entrys-records : (p : List ℕ) (e : Entry) (i : ℕ) → (EntryRead p e) × (i < recordsIn e) → (EntryRead p (entryOf (rowOf e) (e .key))) × (i < recordsIn (entryOf (rowOf e) (e .key)))
+a-row-has-its-entrys-records p e i h = h
 
 -- ---- the search over a list
 
@@ -185,9 +177,9 @@ module _ (w : Work) (page : List ℕ) (at : Passing) (entries : ℕ) (store : Li
 
 pub beginning-bounds : (w : Work) (page : List ℕ) → beginningOf 4096 w page .bounds ≡ boundsOf 4096 w
 unfolding beginningOf
-beginning-bounds w page = go (isZero (pageNumber 4096 w page)) refl
+beginning-bounds w page = go (isZero (lentPageVerdict 4096 w page)) refl
   where
-    go : (b : Bool) → isZero (pageNumber 4096 w page) ≡ b → beginningOf 4096 w page .bounds ≡ boundsOf 4096 w
+    go : (b : Bool) → isZero (lentPageVerdict 4096 w page) ≡ b → beginningOf 4096 w page .bounds ≡ boundsOf 4096 w
     go true h = rw h
     go false h = rw h
 

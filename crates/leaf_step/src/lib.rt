@@ -34,14 +34,14 @@ ghost use Rattle.leaf_model.specs.Basics.{cleared};
 ghost use Rattle.leaf_work.specs.declared.Entry as declared;
 ghost use Rattle.leaf_work.specs.Tests.{isSet, keyIf};
 ghost use Rattle.leaf_work.specs.Lent.{blank};
-ghost use Rattle.leaf_work.specs.Pending.{entryPlaces};
+ghost use Rattle.leaf_work.specs.Pending.{entryPlaces, recordsIn};
 ghost use Rattle.leaf_work.specs.Verdict.{openVerdict, nextBaseVerdict, removeVerdict};
 ghost use Rattle.leaf_work.specs.Outcome.{replyNumber, Opened, openOf, Changed, nextBaseOf, removeCutoffOf, nthPlace, twinOf, partOf};
 ghost use Rattle.leaf_open.specs.Opening.{openingOf};
 ghost use Rattle.leaf_pending.specs.Reply.{twinOut};
 ghost use Rattle.leaf_pending.specs.Steps.{EntryRead};
 ghost use Rattle.leaf_passed.specs.Passed.{PassingOn, beginningOf, closedBeginning, passedOver};
-ghost use Rattle.leaf_passed.specs.Sought.{recordsIn, seekFrom, soughtOver};
+ghost use Rattle.leaf_passed.specs.Sought.{seekFrom, soughtOver};
 ghost use Rattle.leaf_step.specs.Over.{Over, ClosedOver, SoughtOver};
 
 // ---- the pass begins

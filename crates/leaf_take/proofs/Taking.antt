@@ -19,7 +19,7 @@ use Rattle.leaf_work.specs.declared.Work.{Work}
 use Rattle.leaf_work.specs.declared.Entry.{Entry}
 use Rattle.leaf_work.specs.Tests.{bit}
 use Rattle.leaf_work.specs.Lent.{blank, insertAt, chunkOf, regarded}
-use Rattle.leaf_work.specs.TakingUp.{valueOf, newEntries}
+use Rattle.leaf_work.specs.TakingUp.{valueOf, chunkEntries, insertEntries, entriesWith, newEntries}
 use Rattle.leaf_work.specs.Verdict.{lentVerdict, ingestVerdict}
 use Rattle.leaf_work.specs.Outcome as outcome
 use Rattle.leaf_base.proofs.Bases.{first-refused}
@@ -28,7 +28,7 @@ use Rattle.leaf_ingest.specs.declared.Change.{Change}
 use Rattle.leaf_ingest.specs.declared.Change.the-variants.{Put, Delete}
 use Rattle.leaf_ingest.specs.declared.Kept.{Kept}
 use Rattle.leaf_ingest.specs.Reply.{changeOf}
-use Rattle.leaf_ingest.specs.Steps.{Taken, Sizes, stepVerdict, Admits, addedBy, chunkEntries, insertEntries, entriesWith, reportBy, workWith, Takes}
+use Rattle.leaf_ingest.specs.Steps.{Taken, Sizes, stepVerdict, Admits, addedBy, ingestWorkBy, Takes}
 use Rattle.leaf_ingest.proofs.Numbers.{what-takes-an-ingest-admits-it, the-number-is-that-of-the-call, added-records, pending-is, pending-bytes-are}
 use Rattle.leaf_ingest.proofs.Splicing.{put-one}
 use Rattle.leaf_ingest.proofs.Ingests.{accepted-things-take-an-ingest, Passed, passed-rows, added-at-most-one, entries-are, report-is, work-is}
@@ -46,7 +46,6 @@ use Rattle.leaf_take.specs.Listing.{chunkCount, placeOf, flagOf, refused
 
 module _ (list : List Entry) (low stop sum used : ℕ) where
   chunk-number : length (chunkEntries low stop sum) ≡ chunkCount low stop
-  unfolding chunkEntries
   chunk-number = go (ltb low stop) refl
     where
       go : (b : Bool) → ltb low stop ≡ b → length (chunkEntries low stop sum) ≡ chunkCount low stop
@@ -54,7 +53,6 @@ module _ (list : List Entry) (low stop sum used : ℕ) where
       go false h = rw (chunkEntries, chunkCount, h)
 
   chunk-set : used + (stop - low) ≤ length list → set list (placeOf (chunkCount low stop) used (length list)) (chunkOf low stop sum) ≡ put list used (chunkEntries low stop sum)
-  unfolding chunkEntries
   chunk-set r = go (ltb low stop) refl
     where
       go : (b : Bool) → ltb low stop ≡ b → set list (placeOf (chunkCount low stop) used (length list)) (chunkOf low stop sum) ≡ put list used (chunkEntries low stop sum)
@@ -66,13 +64,11 @@ module _ (list : List Entry) (low stop sum used : ℕ) where
 
 module _ (list : List Entry) (from at : ℕ) (k value : List ℕ) where
   insert-number : (change : Change) → length (insertEntries from k (changeOf change value)) ≡ addedBy change
-  unfolding insertEntries
   insert-number (Put flag) = refl
   insert-number Delete = refl
 
   insert-set : (change : Change) → at + addedBy change ≤ length list
       → set list (placeOf (addedBy change) at (length list)) (insertAt from (from + length (valueOf (changeOf change value))) k (flagOf change)) ≡ put list at (insertEntries from k (changeOf change value))
-  unfolding insertEntries
   insert-set (Put flag) r = put-one list at (insertAt from (from + length value) k (bit flag)) (omega arith)
   insert-set Delete r = set-out list (length list) (insertAt from (from + 0) k 0) (omega arith) ∙ sym (put-none list at)
 
@@ -139,7 +135,7 @@ module _ (size : ℕ) (w : Work) (list : List Entry) (store page : List ℕ) (k 
     abbrev chunk : List Entry
     chunk = chunkEntries (w .low) (kept .stop) (kept .taken)
 
-    entries-number : w .used + chunkCount (w .low) (kept .stop) + addedBy change ≡ w .used + length (entriesWith w k kept c)
+    entries-number : w .used + chunkCount (w .low) (kept .stop) + addedBy change ≡ w .used + length (entriesWith w k (kept .stop) (kept .taken) c)
     entries-number =
         omega (
           arith,
@@ -148,7 +144,7 @@ module _ (size : ℕ) (w : Work) (list : List Entry) (store page : List ℕ) (k 
           insert-number list (w .filled) (w .used) k value change,
         )
 
-    both-listed : (reply : LeafReport) → listed list (acceptedStep w kept (length list) k change (length (valueOf c)) reply) ≡ put list (w .used) (entriesWith w k kept c)
+    both-listed : (reply : LeafReport) → listed list (acceptedStep w kept (length list) k change (length (valueOf c)) reply) ≡ put list (w .used) (entriesWith w k (kept .stop) (kept .taken) c)
     both-listed reply =
         let n = chunk-number list (w .low) (kept .stop) (kept .taken) (w .used) in
         let m : Entry = chunkOf (w .low) (kept .stop) (kept .taken) in
@@ -167,7 +163,7 @@ module _ (size : ℕ) (w : Work) (list : List Entry) (store page : List ℕ) (k 
             go true h = let l : w .low < kept .stop = ltb-true (w .low) (kept .stop) h in rw (chunkCount, h) (omega arith)
             go false h = rw (chunkCount, h) (omega arith)
 
-    pub an-accepted-step-leaves-its-outcome : (x : List ℕ) → x ≡ valueOf c → (report : outcome.IngestReply) → report ≡ reportBy (w .low) page (kept .stop) (kept .dropped)
+    pub an-accepted-step-leaves-its-outcome : (x : List ℕ) → x ≡ valueOf c → (report : outcome.IngestReply) → report ≡ outcome.reportBy (w .low) page (kept .stop) (kept .dropped)
         → (reply : LeafReport) → reply ≡ reportOut report → (store′ : List ℕ) → store′ ≡ put store (w .filled) x
         → Steps (outcome.ingestOn size w list store page k c 0) list (acceptedStep w kept (length list) k change (length x) reply) store′
     unfolding put
@@ -175,8 +171,8 @@ module _ (size : ℕ) (w : Work) (list : List Entry) (store page : List ℕ) (k 
         rw (done, f) (record {
           reply-is = r ∙ ap reportOut (u ∙ report-is w page k kept g size list store c);
           work-is =
-              ap (λ (n : ℕ). workWith w k kept n (addedBy change) (length (valueOf c))) entries-number
-              ∙ ap (λ (n : ℕ). workWith w k kept (w .used + length (entriesWith w k kept c)) n (length (valueOf c))) (added-records change value k)
+              ap (λ (n : ℕ). ingestWorkBy w k kept n (addedBy change) (length (valueOf c))) entries-number
+              ∙ ap (λ (n : ℕ). ingestWorkBy w k kept (w .used + length (entriesWith w k (kept .stop) (kept .taken) c)) n (length (valueOf c))) (added-records change value k)
               ∙ work-is w page k kept g size list store c;
           list-is = both-listed reply ∙ ap (λ (es : List Entry). put list (w .used) es) (entries-are w page k kept g c);
           store-is = s ∙ ap (put store (w .filled)) f;
@@ -201,7 +197,7 @@ module _ (size : ℕ) (w : Work) (entries : ℕ) (store page : List ℕ) (k : Li
     the-step-has-room = (room .0, rw f (room .1), room .2)
 
     -- what earns no refusal in one list with so many entries is accepted in all of them, but is ready in that one
-    pub an-accepted-ingest-steps : (report : outcome.IngestReply) → report ≡ reportBy (w .low) page (kept .stop) (kept .dropped) → (reply : LeafReport) → reply ≡ reportOut report
+    pub an-accepted-ingest-steps : (report : outcome.IngestReply) → report ≡ outcome.reportBy (w .low) page (kept .stop) (kept .dropped) → (reply : LeafReport) → reply ≡ reportOut report
         → (store′ : List ℕ) → store′ ≡ put store (w .filled) x → (r : IngestStep) → r ≡ acceptedStep w kept entries k change (length x) reply → (list : List Entry) → length list ≡ entries
         → Steps (outcome.ingestOn size w list store page k (changeOf change value) 0) list r store′
     an-accepted-ingest-steps report u reply b store′ s r e list l =

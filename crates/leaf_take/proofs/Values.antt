@@ -15,7 +15,7 @@ use Rattle.leaf_ingest.specs.declared.Report.{Report}
 use Rattle.leaf_ingest.specs.declared.Report.the-variants as report
 use Rattle.leaf_ingest.specs.declared.Kept.{Kept}
 use Rattle.leaf_ingest.specs.Reply.{replyOf}
-use Rattle.leaf_ingest.specs.Steps.{addedBy, workWith}
+use Rattle.leaf_ingest.specs.Steps.{addedBy, ingestWorkBy}
 use Rattle.leaf_take.specs.declared.LeafReport.{LeafReport}
 use Rattle.leaf_take.specs.declared.IngestStep.{IngestStep}
 use Rattle.leaf_take.specs.Reply.{changeGiven, reportOut}
@@ -64,7 +64,7 @@ nothing-is-listed w entries number none e = rw e
 
 module _ (w : Work) (z : Kept) (entries : ℕ) (k : List ℕ) (change : Change) (len : ℕ) (reply : LeafReport) where
   pub the-step-is-made : (n a : ℕ) (next : Work) (at place : ℕ) (chunk insert : Entry) (flag : ℕ) → n ≡ chunkCount (w .low) (z .stop) → a ≡ addedBy change
-      → next ≡ workWith w k z (w .used + n + a) a len → at ≡ placeOf n (w .used) entries → chunk ≡ chunkOf (w .low) (z .stop) (z .taken)
+      → next ≡ ingestWorkBy w k z (w .used + n + a) a len → at ≡ placeOf n (w .used) entries → chunk ≡ chunkOf (w .low) (z .stop) (z .taken)
       → place ≡ placeOf a (w .used + n) entries → flag ≡ flagOf change → insert ≡ insertAt (w .filled) (w .filled + len) k flag
       → _≡_ {A = IngestStep} (record { reply = reply; work = next; at = at; chunk = chunk; next = place; insert = insert }) (acceptedStep w z entries k change len reply)
   the-step-is-made n a next at place chunk insert flag e₁ e₂ e₃ e₄ e₅ e₆ e₇ e₈ = rw (e₃, e₄, e₅, e₆, e₈, e₇, e₁, e₂)

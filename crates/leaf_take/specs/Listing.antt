@@ -13,7 +13,7 @@ use Rattle.leaf_work.specs.Outcome as outcome
 use Rattle.leaf_ingest.specs.declared.Change.{Change}
 use Rattle.leaf_ingest.specs.declared.Change.the-variants.{Put, Delete}
 use Rattle.leaf_ingest.specs.declared.Kept.{Kept}
-use Rattle.leaf_ingest.specs.Steps.{addedBy, workWith, Takes}
+use Rattle.leaf_ingest.specs.Steps.{addedBy, ingestWorkBy, Takes}
 use Rattle.leaf_take.specs.declared.LeafReport.{LeafReport}
 use Rattle.leaf_take.specs.declared.IngestStep.{IngestStep}
 use Rattle.leaf_take.specs.Reply.{reportOut}
@@ -46,7 +46,7 @@ refusedStep w entries number = record {
 abbrev pub acceptedStep : Work → Kept → ℕ → List ℕ → Change → ℕ → LeafReport → IngestStep
 acceptedStep w z entries k change len reply = record {
   reply = reply;
-  work = workWith w k z (w .used + chunkCount (w .low) (z .stop) + addedBy change) (addedBy change) len;
+  work = ingestWorkBy w k z (w .used + chunkCount (w .low) (z .stop) + addedBy change) (addedBy change) len;
   at = placeOf (chunkCount (w .low) (z .stop)) (w .used) entries;
   chunk = chunkOf (w .low) (z .stop) (z .taken);
   next = placeOf (addedBy change) (w .used + chunkCount (w .low) (z .stop)) entries;

@@ -14,7 +14,7 @@ use Rattle.leaf_work.specs.declared.Entry.{Entry}
 use Rattle.leaf_work.specs.Tests.{oneOf, bit, keyIf}
 use Rattle.leaf_work.specs.Lent.{blank, turnNumber, cutoffOf, regarded}
 use Rattle.leaf_work.specs.Pending.{Place, partAt, pendingPlaces}
-use Rattle.leaf_work.specs.TakingUp.{valueOf, stop, lowAfter, reports, newEntries, countAfter, bytesAfter}
+use Rattle.leaf_work.specs.TakingUp.{valueOf, reports, stop, drops, lowAfter, newEntries, countAfter, bytesAfter}
 use Rattle.leaf_work.specs.Verdict.{lentVerdict, Opening, with-base, with-none, openVerdict, ingestVerdict, nextBaseVerdict, removeVerdict}
 
 -- ---- opening, next base, cutoff removal answer that they are done, or a refusal
@@ -84,31 +84,39 @@ pub record Ingested : Type 0 where
   pub list : List Entry
   pub store : List ℕ
 
+-- "Ingest answers the cell's offset and length in the base page in that case, and nothing otherwise." By what was found.
+abbrev pub reportBy : ℕ → List ℕ → ℕ → Bool → IngestReply
+reportBy low page stop dropped = elim (reports low page stop dropped) [ true ↦ Reported (start page stop) (lengthAt page stop) | false ↦ Quiet ]
+
+-- the work record with another passed part, list and gauge; the key is the last one taken
+abbrev pub takenWork : Work → List ℕ → ℕ → ℕ → ℕ → ℕ → ℕ → Work
+takenWork w k low used filled count bytes = record {
+  turn = w .turn;
+  based = w .based;
+  low = low;
+  used = used;
+  filled = filled;
+  count = count;
+  bytes = bytes;
+  latest = w .latest;
+  cut = w .cut;
+  cutoff = w .cutoff;
+  over = w .over;
+  overriding = w .overriding;
+  floor = w .floor;
+  taken = 1;
+  last = k;
+}
+
 -- `page` is the page as the work regards it
 module _ (size : ℕ) (w : Work) (list : List Entry) (store page k : List ℕ) (c : Option Change) where
-  -- "Ingest answers the cell's offset and length in the base page in that case, and nothing otherwise."
   abbrev pub reportOf : IngestReply
-  reportOf = elim (reports w page k) [ true ↦ Reported (start page (stop w page k)) (lengthAt page (stop w page k)) | false ↦ Quiet ]
+  reportOf = reportBy (w .low) page (stop w page k) (drops w page k)
 
-  -- "Base records below the key become pending; an equal one is dropped; the new one is pending behind them." The key is the last one taken.
+  -- "Base records below the key become pending; an equal one is dropped; the new one is pending behind them."
   abbrev pub ingestWork : Work
-  ingestWork = record {
-    turn = w .turn;
-    based = w .based;
-    low = lowAfter w page k;
-    used = w .used + length (newEntries w page k c);
-    filled = w .filled + length (valueOf c);
-    count = countAfter w page k c;
-    bytes = bytesAfter w page k c;
-    latest = w .latest;
-    cut = w .cut;
-    cutoff = w .cutoff;
-    over = w .over;
-    overriding = w .overriding;
-    floor = w .floor;
-    taken = 1;
-    last = k;
-  }
+  ingestWork =
+      takenWork w k (lowAfter w page k) (w .used + length (newEntries w page k c)) (w .filled + length (valueOf c)) (countAfter w page k c) (bytesAfter w page k c)
 
   abbrev pub ingestDone : Ingested
   ingestDone = record {

@@ -51,6 +51,14 @@ unfoldable pub entryPlaces : List ℕ → Entry → List Place
 unfolding chunkPlaces
 entryPlaces page e = elim (anInsert e) [ true ↦ insertPlace e ∷ [] | false ↦ chunkPlaces page (e .from) (e .to) ]
 
+-- how many that is: of an insert or else a chunk, `from` up to `to`
+abbrev pub recordsBy : Bool → ℕ → ℕ → ℕ
+recordsBy true from to = 1
+recordsBy false from to = to - from
+
+abbrev pub recordsIn : Entry → ℕ
+recordsIn e = recordsBy (eqb (e .kind) 1) (e .from) (e .to)
+
 abbrev pub placesOf : List ℕ → List Entry → List Place
 placesOf page [] = []
 placesOf page (e ∷ es) = entryPlaces page e ++ placesOf page es

@@ -20,6 +20,28 @@ abbrev pub valueOf : Option Change → List ℕ
 valueOf none = []
 valueOf (some c) = c .value
 
+-- ---- by what was found: base records `low` up to `stop` are taken up, and the one at `stop` is dropped or not
+
+-- "The Rust calls `with_deleted_overflow` only when the dropped record has its flag set and at least one base record was taken up just before it
+-- in the same call."
+abbrev pub reports : ℕ → List ℕ → ℕ → Bool → Bool
+reports low page stop dropped = dropped && (flagAt page stop && ltb low stop)
+
+-- no empty chunk is listed; the values in it have `sum` bytes
+abbrev pub chunkEntries : ℕ → ℕ → ℕ → List Entry
+chunkEntries low stop sum = elim (ltb low stop) [ true ↦ chunkOf low stop sum ∷ [] | false ↦ [] ]
+
+-- a new value stands in the store from `at` on
+abbrev pub insertEntries : ℕ → List ℕ → Option Change → List Entry
+insertEntries at k none = []
+insertEntries at k (some c) = insertAt at (at + length (c .value)) k (bit (c .flag)) ∷ []
+
+-- "the new one is pending behind them"
+abbrev pub entriesWith : Work → List ℕ → ℕ → ℕ → Option Change → List Entry
+entriesWith w k stop sum c = chunkEntries (w .low) stop sum ++ insertEntries (w .filled) k c
+
+-- ---- by the key
+
 module _ (w : Work) (page k : List ℕ) where
   -- "Base records below the key become pending": up to `stop`. The search is that of `get`, from `low` on.
   unfoldable pub stop : ℕ
@@ -40,22 +62,8 @@ module _ (w : Work) (page k : List ℕ) where
   abbrev pub restAfter : List Record
   restAfter = recordsBetween page lowAfter (count page)
 
-  -- "The Rust calls `with_deleted_overflow` only when the dropped record has its flag set and at least one base record was taken up just before it
-  -- in the same call."
-  abbrev pub reports : Bool
-  reports = drops && (flagAt page stop && ltb (w .low) stop)
-
-  -- no empty chunk is listed
-  abbrev pub newChunk : List Entry
-  newChunk = elim (ltb (w .low) stop) [ true ↦ chunkOf (w .low) stop (valuesSize page (w .low) stop) ∷ [] | false ↦ [] ]
-
-  -- "the new one is pending behind them"
-  abbrev pub newInsert : Option Change → List Entry
-  newInsert none = []
-  newInsert (some c) = insertAt (w .filled) (w .filled + length (c .value)) k (bit (c .flag)) ∷ []
-
   abbrev pub newEntries : Option Change → List Entry
-  newEntries c = newChunk ++ newInsert c
+  newEntries c = entriesWith w k stop (valuesSize page (w .low) stop) c
 
   -- the gauge after it
   abbrev pub countAfter : Option Change → ℕ

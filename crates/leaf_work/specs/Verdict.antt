@@ -39,10 +39,14 @@ baseVerdict size page separator cutoff =
 unfoldable pub keysVerdict : ℕ → List ℕ → List ℕ → Option (List ℕ) → ℕ
 keysVerdict size page separator cutoff = first (pageVerdict size page) (unless badBounds (keysWithin separator cutoff (records page)) accepted)
 
--- Nos. 1 to 8 of a call that is lent work, list, store and page; the page is tested only where the work reads it
+-- Nos. 1 to 6 of a lent page, which is tested only where the work reads it
+abbrev pub lentPageVerdict : ℕ → Work → List ℕ → ℕ
+lentPageVerdict size w page = oneOf (readsBase w) (keysVerdict size page (w .latest) (cutoffOf w)) accepted
+
+-- Nos. 1 to 8 of a call that is lent work, list, store and page
 unfoldable pub lentVerdict : ℕ → Work → List Entry → List ℕ → List ℕ → ℕ
 lentVerdict size w list store page =
-    first (oneOf (readsBase w) (keysVerdict size page (w .latest) (cutoffOf w)) accepted)
+    first (lentPageVerdict size w page)
     (unless roomLength (roomRight size (length list) (length store))
     (unless unsound (sound size w list store (regarded w page)) accepted))
 
@@ -78,26 +82,29 @@ hasPages size pending area tickets =
 unfoldable pub digestVerdict : ℕ → Work → List Record → List ℕ → List ℕ → ℕ → ℕ
 digestVerdict size w pending area tickets lent = first lent (unless outOfTurn (isOpen w) (unless shortArea (hasPages size pending area tickets) accepted))
 
--- ---- next base and cutoff removal: "both refuse an open work with 9 without testing 8"
+-- ---- next base and cutoff removal
+
+-- "both refuse an open work with 9 without testing 8": Nos. 7 to 9, then what the later rows say. The page is none, since a work that waits
+-- or is done ignores it.
+abbrev pub closedVerdict : ℕ → Work → List Entry → List ℕ → ℕ → ℕ
+closedVerdict size w list store later =
+    unless roomLength (roomRight size (length list) (length store)) (unless outOfTurn (not (isOpen w)) (unless unsound (sound size w list store []) later))
 
 -- "separator at or above that cutoff"
 abbrev pub reaches : Work → List ℕ → Bool
 reaches w separator = not (ltKey separator (w .cutoff))
 
+-- "when done after a digest that had a cutoff"; then the separator, and the room for the new page's records
+abbrev pub followsVerdict : Work → List ℕ → List ℕ → ℕ → ℕ → ℕ
+followsVerdict w page separator entries bytes =
+    unless outOfTurn (isSet (w .cut))
+    (unless keyTooLow (reaches w separator)
+    (unless listFull (leb (w .count + length (records page)) entries)
+    (unless storeFull (leb (w .bytes + total (records page)) bytes) accepted)))
+
 unfoldable pub nextBaseVerdict : ℕ → Work → List Entry → List ℕ → List ℕ → List ℕ → Option (List ℕ) → ℕ
 nextBaseVerdict size w list store page separator cutoff =
-    first (baseVerdict size page separator cutoff)
-    (unless roomLength (roomRight size (length list) (length store))
-    (unless outOfTurn (not (isOpen w))
-    (unless unsound (sound size w list store [])
-    (unless outOfTurn (isSet (w .cut))
-    (unless keyTooLow (reaches w separator)
-    (unless listFull (leb (w .count + length (records page)) (length list))
-    (unless storeFull (leb (w .bytes + total (records page)) (length store)) accepted)))))))
+    first (baseVerdict size page separator cutoff) (closedVerdict size w list store (followsVerdict w page separator (length list) (length store)))
 
 unfoldable pub removeVerdict : ℕ → Work → List Entry → List ℕ → ℕ
-removeVerdict size w list store =
-    unless roomLength (roomRight size (length list) (length store))
-    (unless outOfTurn (not (isOpen w))
-    (unless unsound (sound size w list store [])
-    (unless outOfTurn (isWaiting w) accepted)))
+removeVerdict size w list store = closedVerdict size w list store (unless outOfTurn (isWaiting w) accepted)

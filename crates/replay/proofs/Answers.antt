@@ -12,7 +12,7 @@ use Rattle.leaf_take.specs.declared.LeafReport.{LeafReport}
 use Rattle.leaf_within.specs.declared.LeafGave.{LeafGave}
 use Rattle.leaf_work.specs.Tests.{every}
 use Rattle.replay.specs.Parts.{hasAt, hasPart, isHeld}
-use Rattle.replay.specs.declared.tally.Tally.{Tally}
+use Rattle.replay.specs.declared.score.Score.{Score}
 use Rattle.replay.specs.Counts.{Counted}
 use Rattle.replay.specs.Answers.{pageLent, sameReport, sameDigest, onlyGiven, sameLeaf}
 
@@ -40,6 +40,6 @@ module _ (v page : List ℕ) where
   the-page-is-lent h k p e = rw (le-leb 4205 (length v) h, le-leb 4096 (length page) k) e
 
 -- the page and the ticket of a leaf
-pub the-leaf-is-counted : (v area tickets : List ℕ) (leaf ticket n : ℕ) (a b : Bool) (before after : Tally) → n ≡ word v 67 → a ≡ hasPart v 109 area leaf 4096
+pub the-leaf-is-counted : (v area tickets : List ℕ) (leaf ticket n : ℕ) (a b : Bool) (before after : Score) → n ≡ word v 67 → a ≡ hasPart v 109 area leaf 4096
     → b ≡ hasPart v 1 tickets ticket n → Counted (a && b) before after → Counted (sameLeaf v area leaf tickets ticket) before after
 the-leaf-is-counted v area tickets leaf ticket n a b before after e f g c = rw (← e, ← f, ← g) c

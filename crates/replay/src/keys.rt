@@ -3,7 +3,7 @@ use crate::bytes::byte;
 use crate::bytes::key;
 use crate::bytes::number;
 use crate::bytes::same_key;
-use crate::tally::Tally;
+use crate::score::Score;
 
 // A refused call leaves the lent key, here zeros, as it was; so the record has zeros too.
 fn passes(v: &[u8; 99]) -> bool {
@@ -16,7 +16,7 @@ fn passes(v: &[u8; 99]) -> bool {
 }
 
 // The next record of the file.
-pub(crate) fn next(fd: i32, t: Tally) -> Tally {
+pub(crate) fn next(fd: i32, t: Score) -> Score {
     let mut v = [0u8; 99];
     let n = io::read_full(fd, &mut v);
     if n != 99 {

@@ -3,11 +3,11 @@
 mod bytes;
 mod keys;
 mod pages;
-mod tally;
+mod score;
 mod works;
 
 use libc::STDOUT_FILENO;
-use tally::Tally;
+use score::Score;
 
 // What the records of a file hold.
 enum Kind {
@@ -17,7 +17,7 @@ enum Kind {
     Sequences,
 }
 
-fn next(kind: Kind, fd: i32, t: Tally) -> Tally {
+fn next(kind: Kind, fd: i32, t: Score) -> Score {
     match kind {
         Kind::Keys => keys::next(fd, t),
         Kind::Pages => pages::next(fd, t),
@@ -27,8 +27,8 @@ fn next(kind: Kind, fd: i32, t: Tally) -> Tally {
 }
 
 // All records of a file. Nothing tells that a file ends, so the turns are counted.
-fn replay(path: &[u8], kind: Kind) -> Tally {
-    let mut t = Tally::new();
+fn replay(path: &[u8], kind: Kind) -> Score {
+    let mut t = Score::new();
     let fd = os::open_read(path);
     if fd < 0 {
         os::fail(path);
@@ -47,7 +47,7 @@ fn say(text: &[u8]) {
     io::write_all(STDOUT_FILENO, text);
 }
 
-fn report(name: &[u8], t: Tally) {
+fn report(name: &[u8], t: Score) {
     say(name);
     io::print_decimal(STDOUT_FILENO, t.passed);
     say(b" passed, ");

@@ -5,7 +5,7 @@ use crate::bytes::key;
 use crate::bytes::number;
 use crate::bytes::same;
 use crate::bytes::same_key;
-use crate::tally::Tally;
+use crate::score::Score;
 use leaf_page::LeafValue;
 
 const QUESTIONS: usize = 24;
@@ -45,7 +45,7 @@ fn passes(page: &[u8], v: &[u8], q: usize) -> bool {
     same_value(v, q, leaf_page::get(page, &sought))
 }
 
-fn ask_all(page: &[u8], v: &[u8], t: Tally) -> Tally {
+fn ask_all(page: &[u8], v: &[u8], t: Score) -> Score {
     let mut out = t.count(leaf_node::check(page) == byte(v, 4096));
     let mut i = 0;
     while i < QUESTIONS {
@@ -56,7 +56,7 @@ fn ask_all(page: &[u8], v: &[u8], t: Tally) -> Tally {
 }
 
 // The next record of the file.
-pub(crate) fn next(fd: i32, t: Tally) -> Tally {
+pub(crate) fn next(fd: i32, t: Score) -> Score {
     let mut v = [0u8; 5921];
     let n = io::read_full(fd, &mut v);
     if n != 5921 {
@@ -67,7 +67,7 @@ pub(crate) fn next(fd: i32, t: Tally) -> Tally {
 }
 
 // The next record of a page that is built.
-pub(crate) fn next_build(fd: i32, t: Tally) -> Tally {
+pub(crate) fn next_build(fd: i32, t: Score) -> Score {
     let mut v = [0u8; 8198];
     let n = io::read_full(fd, &mut v);
     if n != 8198 {

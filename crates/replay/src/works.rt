@@ -7,7 +7,7 @@ use crate::bytes::key;
 use crate::bytes::number;
 use crate::bytes::same_key;
 use crate::bytes::same_part;
-use crate::tally::Tally;
+use crate::score::Score;
 use leaf_flat::LeafDigested;
 use leaf_take::LeafReport;
 use leaf_within::LeafGave;
@@ -56,13 +56,13 @@ struct Run {
     work: Work,
     leaf: usize,
     ticket: usize,
-    tally: Tally,
+    score: Score,
 }
 
 impl Run {
     // Before the first opening the work record holds zeros.
-    fn new(t: Tally) -> Self
-        ensures { λ r. ⌜ r .tally ≡ t ⌝ }
+    fn new(t: Score) -> Self
+        ensures { λ r. ⌜ r .score ≡ t ⌝ }
     {
         let none = [0u8; 32];
         Self {
@@ -85,23 +85,23 @@ impl Run {
             },
             leaf: 0,
             ticket: 0,
-            tally: t,
+            score: t,
         }
     }
 
     // A record that is no call.
     fn count(self, passed: bool) -> Self
-        ensures { λ r. ⌜ Counted passed (self .tally) (r .tally) ⌝ }
+        ensures { λ r. ⌜ Counted passed (self .score) (r .score) ⌝ }
         ensures { λ r. ⌜ r .work ≡ self .work ⌝ }
     {
         let mut run = self;
-        run.tally = run.tally.count(passed);
+        run.score = run.score.count(passed);
         run
     }
 
     // A call that left this work record.
     fn answered(self, work: Work, passed: bool) -> Self
-        ensures { λ r. ⌜ Counted passed (self .tally) (r .tally) ⌝ }
+        ensures { λ r. ⌜ Counted passed (self .score) (r .score) ⌝ }
         ensures { λ r. ⌜ r .work ≡ work ⌝ }
     {
         let mut run = self;
@@ -111,11 +111,11 @@ impl Run {
 
     // The file's end, of which `left` bytes make no record.
     fn end(self, left: usize) -> Self
-        ensures { λ r. ⌜ r .tally .more ≡ false ⌝ }
+        ensures { λ r. ⌜ r .score .more ≡ false ⌝ }
         ensures { λ r. ⌜ r .work ≡ self .work ⌝ }
     {
         let mut run = self;
-        run.tally = run.tally.end(left);
+        run.score = run.score.end(left);
         run
     }
 }
@@ -310,7 +310,7 @@ fn behind(at: usize, n: usize) -> usize
 
 // The next leaf of the last digest, and its ticket.
 fn leaf(v: &[u8], run: Run, area: &[u8], tickets: &[u8]) -> Run
-    ensures { λ r. ⌜ Counted (sameLeaf (now (v .entry)) (now (area .entry)) (run .leaf) (now (tickets .entry)) (run .ticket)) (run .tally) (r .tally) ⌝ }
+    ensures { λ r. ⌜ Counted (sameLeaf (now (v .entry)) (now (area .entry)) (run .leaf) (now (tickets .entry)) (run .ticket)) (run .score) (r .score) ⌝ }
 {
     let n = number(v, LENGTH);
     let page_right = same_part(v, BODY, area, run.leaf, PAGE);
@@ -351,7 +351,7 @@ fn next(
 }
 
 // All records of the file, since one goes on with what the one before it left. Nothing tells that a file ends, so the turns are counted.
-pub(crate) fn all(fd: i32, t: Tally) -> Tally {
+pub(crate) fn all(fd: i32, t: Score) -> Score {
     let mut rows = [[0usize; 5]; 121];
     let mut keys = [[0u8; 32]; 121];
     let mut store = [0u8; 9000];
@@ -360,7 +360,7 @@ pub(crate) fn all(fd: i32, t: Tally) -> Tally {
     let mut tickets = [0u8; 325];
     let mut run = Run::new(t);
     let mut turns = u64::MAX;
-    while turns > 0 && run.tally.more {
+    while turns > 0 && run.score.more {
         run = next(
             fd,
             run,
@@ -373,5 +373,5 @@ pub(crate) fn all(fd: i32, t: Tally) -> Tally {
         );
         turns -= 1;
     }
-    run.tally
+    run.score
 }

@@ -17,8 +17,8 @@ pass-list-requires c κs = (search (it-sees-as-well, needs), search (it-begins-s
 returns : tie.Need-returns
 returns c = search (a-wrong-entry, needs)
 
-is-settled-requires : tie.Need-is-settled-requires
-is-settled-requires c κs = (search (it-sees-as-well, needs), search needs, search (same-low, needs), search needs)
+is-pass-right-requires : tie.Need-is-pass-right-requires
+is-pass-right-requires c κs = (search (it-sees-as-well, needs), search needs, search (same-low, needs), search needs)
 
 returns-2 : tie.Need-returns-2
 returns-2 c = search (settles, needs)
@@ -31,5 +31,5 @@ entries-sound-spec =
     begin-requires
     pass-list-requires
     returns
-    is-settled-requires
+    is-pass-right-requires
     returns-2)

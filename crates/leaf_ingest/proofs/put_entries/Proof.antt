@@ -2,8 +2,8 @@
 -- Assumes nothing.
 use Rattle.leaf_ingest.proofs.Writing.{entries-stand-behind-each-other}
 use native.Mathlib.Omega.{arith}
+use Rattle.leaf_work.specs.TakingUp.{chunkEntries, insertEntries}
 use Rattle.leaf_ingest.specs.Reply.{changeOf}
-use Rattle.leaf_ingest.specs.Steps.{chunkEntries, insertEntries}
 use borrow.Author.Needs.{needs}
 use Rattle.leaf_ingest.proofs.put_entries.Statement.{statement}
 use Rattle.leaf_ingest.proofs.put_entries.Tie as tie

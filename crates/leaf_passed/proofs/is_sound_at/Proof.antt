@@ -1,6 +1,6 @@
 -- `leaf_passed::is_sound_at` meets its contract.
 -- Assumes nothing.
-use Rattle.leaf_passed.proofs.Steps.{a-stopped-pass-is-unsound, what-is-not-inside-is-unsound, the-filled-part-is-inside, unclear-bytes-are-unsound, a-wrong-entry-is-unsound, what-is-settled-is-sound}
+use Rattle.leaf_passed.proofs.Steps.{a-stopped-pass-is-unsound, what-is-not-inside-is-unsound, the-filled-part-is-inside, unclear-bytes-are-unsound, a-wrong-entry-is-unsound, what-is-right-is-sound}
 use borrow.Author.Tests.{not-false}
 use Rattle.leaf_check.proofs.Sounds.{same-low}
 use borrow.Author.Needs.{needs}
@@ -22,14 +22,14 @@ returns-3 c = search (unclear-bytes-are-unsound, needs)
 returns-4 : tie.Need-returns-4
 returns-4 c = search (a-wrong-entry-is-unsound, needs)
 
-is-settled-requires : tie.Need-is-settled-requires
-is-settled-requires c κs =
+is-pass-right-requires : tie.Need-is-pass-right-requires
+is-pass-right-requires c κs =
     let going = c .before .before .before .before .before .before .before in
     let start = going .before .before .before .before in
     (start .pre .1 (not-false (start .args .at .go) (going .if1 .left)), start .pre .2, same-low (start .args .size) (start .args .work) (start .args .at .bounds) (start .pre .3), start .pre .0)
 
 returns-5 : tie.Need-returns-5
-returns-5 c = search (what-is-settled-is-sound, needs)
+returns-5 c = search (what-is-right-is-sound, needs)
 
 pub is-sound-at-spec : {M : Type 1} → statement M
 is-sound-at-spec =
@@ -40,5 +40,5 @@ is-sound-at-spec =
     zeros-from-requires
     returns-3
     returns-4
-    is-settled-requires
+    is-pass-right-requires
     returns-5)

@@ -1,9 +1,9 @@
--- `replay::tally::Tally::count` meets its contract.
+-- `replay::score::Score::count` meets its contract.
 -- Assumes nothing.
 use Rattle.replay.proofs.Laws.{counted, not-counted-otherwise, counted-otherwise, not-counted}
 use borrow.Author.Needs.{needs}
-use Rattle.replay.proofs.tally.Tally.count.Statement.{statement}
-use Rattle.replay.proofs.tally.Tally.count.Tie as tie
+use Rattle.replay.proofs.score.Score.count.Statement.{statement}
+use Rattle.replay.proofs.score.Score.count.Tie as tie
 
 one-more-requires : tie.Need-one-more-requires
 one-more-requires c κs = search needs

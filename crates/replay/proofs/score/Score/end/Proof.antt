@@ -1,9 +1,9 @@
--- `replay::tally::Tally::end` meets its contract.
+-- `replay::score::Score::end` meets its contract.
 -- Assumes nothing.
 use Rattle.replay.proofs.Laws.{bytes-left-fail, no-bytes-left}
 use borrow.Author.Needs.{needs}
-use Rattle.replay.proofs.tally.Tally.end.Statement.{statement}
-use Rattle.replay.proofs.tally.Tally.end.Tie as tie
+use Rattle.replay.proofs.score.Score.end.Statement.{statement}
+use Rattle.replay.proofs.score.Score.end.Tie as tie
 
 one-more-requires : tie.Need-one-more-requires
 one-more-requires c κs = search needs

@@ -1,9 +1,9 @@
--- `leaf_check::is_settled` meets its contract.
+-- `leaf_check::is_pass_right` meets its contract.
 -- Assumes nothing.
-use Rattle.leaf_check.proofs.Results.{settled-by}
+use Rattle.leaf_check.proofs.Results.{pass-right-by}
 use borrow.Author.Needs.{needs}
-use Rattle.leaf_check.proofs.is_settled.Statement.{statement}
-use Rattle.leaf_check.proofs.is_settled.Tie as tie
+use Rattle.leaf_check.proofs.is_pass_right.Statement.{statement}
+use Rattle.leaf_check.proofs.is_pass_right.Tie as tie
 
 turn-right-requires : tie.Need-turn-right-requires
 turn-right-requires c κs = search needs
@@ -18,10 +18,10 @@ rest-right-requires : tie.Need-rest-right-requires
 rest-right-requires c κs = search needs
 
 returns : tie.Need-returns
-returns c = search (settled-by, needs)
+returns c = search (pass-right-by, needs)
 
-pub is-settled-spec : {M : Type 1} → statement M
-is-settled-spec =
+pub is-pass-right-spec : {M : Type 1} → statement M
+is-pass-right-spec =
     tie.close
     (tie.spec
     turn-right-requires

@@ -1,9 +1,9 @@
--- `replay::tally::one_more` meets its contract.
+-- `replay::score::one_more` meets its contract.
 -- Assumes nothing.
 use Rattle.replay.proofs.Laws.{one-more-below-the-greatest, no-more-at-the-greatest}
 use borrow.Author.Needs.{needs}
-use Rattle.replay.proofs.tally.one_more.Statement.{statement}
-use Rattle.replay.proofs.tally.one_more.Tie as tie
+use Rattle.replay.proofs.score.one_more.Statement.{statement}
+use Rattle.replay.proofs.score.one_more.Tie as tie
 
 add-result : tie.Need-add-result
 add-result c = search needs

@@ -4,7 +4,7 @@ ghost use lib.Dec.{eqb};
 ghost use Rattle.replay.specs.Counts.{oneMore, countIf};
 
 // How many answers passed and failed, and whether the file may hold more.
-pub struct Tally {
+pub struct Score {
     pub passed: u64,
     pub failed: u64,
     pub more: bool,
@@ -16,7 +16,7 @@ fn one_more(x: u64) -> u64
     if x < u64::MAX { x + 1 } else { x }
 }
 
-impl Tally {
+impl Score {
     pub(crate) fn new() -> Self
         ensures { λ r. ⌜ r .passed ≡ 0 ⌝ }
         ensures { λ r. ⌜ r .failed ≡ 0 ⌝ }
