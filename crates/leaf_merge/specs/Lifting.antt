@@ -23,6 +23,7 @@ skipAt at e = cond (eqb e (at .entry)) (at .skip) 0
 
 -- ---- what is required
 
+-- leaf_write's `PartThere`, but of what is below the top, and the base's rest may be empty
 pub record PartBelow (rows keys : List (List ℕ)) (page : List ℕ) (s : Span) (at : Cursor) (top : Top) : Type 0 where
   pub row-in : at .entry < s .used → at .entry < length rows
   pub key-in : at .entry < s .used → at .entry < length keys

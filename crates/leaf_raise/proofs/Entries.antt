@@ -11,9 +11,9 @@ use Rattle.leaf_node.specs.Page.{recordsBetween}
 use Rattle.leaf_work.specs.Pending.{held}
 use Rattle.leaf_cut.specs.Records.{entryRecords}
 use Rattle.leaf_cut.proofs.Parts.{an-insert-holds-itself, a-chunk-holds-its-records}
-use Rattle.leaf_write.specs.Filling.{insertRecord}
+use Rattle.leaf_write.specs.Filling.{insertRecord, InsertIn}
 use Rattle.leaf_raise.specs.declared.Top.{Top}
-use Rattle.leaf_raise.specs.Raising.{lowerBy, Room, Raised, RangeThere, InsertBelow, EntryBelow}
+use Rattle.leaf_raise.specs.Raising.{lowerBy, Room, Raised, RangeThere, EntryBelow}
 
 -- records by another name
 module _ (rows keys : List (List ℕ)) (store : List ℕ) (top : Top) (rs ss : List Record) (e : rs ≡ ss) where
@@ -52,7 +52,7 @@ module _ (page row : List ℕ) (skip : ℕ) (top : Top) (h : EntryBelow page row
       below-a-chunk = same-top rows keys store top _ _ chunk-is
 
   module _ (e : getD row 0 0 ≡ 1) where
-    pub an-insert-is-below : InsertBelow row top
+    pub an-insert-is-below : InsertIn row (top .at)
     an-insert-is-below = h .insert e .1
 
     module _ (rows keys : List (List ℕ)) (store key : List ℕ) where

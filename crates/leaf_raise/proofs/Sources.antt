@@ -17,15 +17,15 @@ use Rattle.leaf_work.specs.Lent.{insertAt}
 use Rattle.leaf_work.specs.Flat.{rowOf}
 use Rattle.leaf_builder.proofs.Writing.{records-none, total-one}
 use Rattle.leaf_builder.proofs.Rebuilding.{records-join}
-use Rattle.leaf_write.specs.Filling.{insertRecord}
+use Rattle.leaf_write.specs.Filling.{insertRecord, InsertIn}
 use Rattle.leaf_move.specs.Moving.{under}
 use Rattle.leaf_raise.specs.declared.Top.{Top}
-use Rattle.leaf_raise.specs.Raising.{lowerBy, Room, Raised, RecordThere, RangeThere, InsertBelow}
+use Rattle.leaf_raise.specs.Raising.{lowerBy, Room, Raised, RecordThere, RangeThere}
 use Rattle.leaf_raise.proofs.Raising.{its-value-has-a-place, its-value-has-room, its-row-is-there, below-one-record, a-moved-record-is-raised, nothing-is-raised, below-no-record, rows-as-long, keys-as-long, store-as-long, room-for-the-last, tops-join, room-is-left, both-are-raised}
 
 -- ---- an insert
 
-module _ (rows keys : List (List ℕ)) (store : List ℕ) (top : Top) (row key : List ℕ) (below : InsertBelow row top) (room : Room rows keys store top (insertRecord store row key ∷ [])) where
+module _ (rows keys : List (List ℕ)) (store : List ℕ) (top : Top) (row key : List ℕ) (below : InsertIn row (top .at)) (room : Room rows keys store top (insertRecord store row key ∷ [])) where
   value-long : length (insertRecord store row key .value) ≡ getD row 3 0 - getD row 2 0
   unfolding insertRecord
   value-long =

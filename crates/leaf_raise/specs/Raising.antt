@@ -8,6 +8,7 @@ use Rattle.leaf_node.specs.Page.{count}
 use Rattle.leaf_node.specs.Steps.{Laid}
 use Rattle.leaf_work.specs.Flat.{rowOf}
 use Rattle.leaf_work.specs.Digest.{insertsOf}
+use Rattle.leaf_write.specs.Filling.{InsertIn}
 use Rattle.leaf_move.specs.Moving.{under}
 use Rattle.leaf_raise.specs.declared.Top.{Top}
 
@@ -36,16 +37,13 @@ pub record RecordThere (page : List ℕ) (i : ℕ) : Type 0 where
   pub there : i < count page
   pub laid : Laid page (count page)
 
+-- leaf_write's `RangeIn`, but it may be empty, and then the page need not be laid out
 pub record RangeThere (page : List ℕ) (from to : ℕ) : Type 0 where
   pub order : from ≤ to
   pub there : to ≤ count page
   pub laid : from < to → Laid page (count page)
 
--- an insert whose value ends below the top
-pub record InsertBelow (row : List ℕ) (top : Top) : Type 0 where
-  pub order : getD row 2 0 ≤ getD row 3 0
-  pub there : getD row 3 0 ≤ top .at
-
+-- leaf_write's `EntryThere`, but an insert's value ends below the top, and a chunk's range may be empty
 pub record EntryBelow (page row : List ℕ) (skip : ℕ) (top : Top) : Type 0 where
-  pub insert : getD row 0 0 ≡ 1 → (skip ≡ 0) × InsertBelow row top
+  pub insert : getD row 0 0 ≡ 1 → (skip ≡ 0) × InsertIn row (top .at)
   pub chunk : (getD row 0 0 ≡ 1 → ⊥) → RangeThere page (getD row 2 0 + skip) (getD row 3 0)

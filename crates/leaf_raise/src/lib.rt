@@ -12,8 +12,8 @@ ghost use lib.ListN.{length};
 ghost use Rattle.leaf_node.specs.Record.{total};
 ghost use Rattle.leaf_node.specs.Page.{recordAt, recordsBetween};
 ghost use Rattle.leaf_cut.specs.Records.{entryRecords};
-ghost use Rattle.leaf_write.specs.Filling.{insertRecord};
-ghost use Rattle.leaf_raise.specs.Raising.{lowerBy, Room, Raised, RecordThere, RangeThere, InsertBelow, EntryBelow};
+ghost use Rattle.leaf_write.specs.Filling.{insertRecord, InsertIn};
+ghost use Rattle.leaf_raise.specs.Raising.{lowerBy, Room, Raised, RecordThere, RangeThere, EntryBelow};
 
 // How far raising has come: the lowest row and key, where the next value will end in the store that is made, and where it will end in
 // the raised one.
@@ -84,7 +84,7 @@ fn raise_insert(
     store: &mut [u8],
     top: Top,
 ) -> Top
-    requires { ⌜ (InsertBelow row top) × (Room (now rows) (now keys) (now store) top (insertRecord (now store) row (now key) ∷ [])) ⌝ }
+    requires { ⌜ (InsertIn row (top .at)) × (Room (now rows) (now keys) (now store) top (insertRecord (now store) row (now key) ∷ [])) ⌝ }
     ensures { λ r. ⌜ (Raised (now (rows .entry)) (now (keys .entry)) (now (store .entry)) top (insertRecord (now (store .entry)) row (now (key .entry)) ∷ []) (now (rows .exit)) (now (keys .exit)) (now (store .exit))) × (r ≡ lowerBy top 1 (total (insertRecord (now (store .entry)) row (now (key .entry)) ∷ []))) ⌝ }
 {
     let from = row[2];

@@ -130,7 +130,7 @@ module _ (store page row key : List ℕ) (skip left : ℕ) (h : EntryThere store
     a-chunk-ends at x q = rw chunk-records q
 
   module _ (e : getD row 0 0 ≡ 1) where
-    pub an-insert-is-there : InsertIn store row
+    pub an-insert-is-there : InsertIn row (length store)
     an-insert-is-there = h .insert e .1
 
     insert-records : take left (entryRecords store page row key skip) ≡ insertRecord store row key ∷ []

@@ -38,12 +38,13 @@ pub record RangeIn (page : List ℕ) (from to : ℕ) : Type 0 where
   pub there : to ≤ count page
   pub laid : Laid page (count page)
 
-pub record InsertIn (store row : List ℕ) : Type 0 where
+-- an insert whose value lies below byte `end` of the store
+pub record InsertIn (row : List ℕ) (end : ℕ) : Type 0 where
   pub order : getD row 2 0 ≤ getD row 3 0
-  pub there : getD row 3 0 ≤ length store
+  pub there : getD row 3 0 ≤ end
 
 pub record EntryThere (store page row : List ℕ) (skip : ℕ) : Type 0 where
-  pub insert : getD row 0 0 ≡ 1 → (skip ≡ 0) × InsertIn store row
+  pub insert : getD row 0 0 ≡ 1 → (skip ≡ 0) × InsertIn row (length store)
   pub chunk : (getD row 0 0 ≡ 1 → ⊥) → RangeIn page (getD row 2 0 + skip) (getD row 3 0)
 
 pub record PartThere (rows keys : List (List ℕ)) (store page : List ℕ) (s : Span) (at : Cursor) : Type 0 where

@@ -72,7 +72,7 @@ fn push_insert(
     j: usize,
     at: usize,
 ) -> usize
-    requires { ⌜ (InsertIn (now store) row) × (Filling (length (now d)) j at (insertRecord (now store) row (now key) ∷ [])) ⌝ }
+    requires { ⌜ (InsertIn row (length (now store))) × (Filling (length (now d)) j at (insertRecord (now store) row (now key) ∷ [])) ⌝ }
     ensures { λ r. ⌜ (now (d .exit) ≡ pushed (now (d .entry)) j at (insertRecord (now (store .entry)) row (now (key .entry)) ∷ [])) × (r ≡ at + total (insertRecord (now (store .entry)) row (now (key .entry)) ∷ [])) ⌝ }
 {
     let from = row[2];
