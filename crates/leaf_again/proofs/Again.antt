@@ -1,6 +1,6 @@
 -- Next base and cutoff removal: their number, test after test, and what they leave. Assumes nothing.
 use mathlib.Core.Path.{_≡_, refl, sym, ap, _∙_}
-use mathlib.Core.Bool.{Bool, true, false, not}
+use mathlib.Core.Bool.{Bool, true, false, not, cond}
 use mathlib.Core.Option.{Option}
 use mathlib.Core.List.{List, []}
 use Prim.Native.Nat.{ℕ, _+_, _-_, _≤_, _<_}
@@ -17,7 +17,7 @@ use Rattle.leaf_node.proofs.Laying.{range-length}
 use Rattle.leaf_work.specs.declared.Work.{Work}
 use Rattle.leaf_work.specs.declared.Entry.{Entry}
 use Rattle.leaf_model.specs.Work.{zeroKey}
-use Rattle.leaf_work.specs.Tests.{oneOf, bit, keyIf}
+use Rattle.leaf_work.specs.Tests.{bit, keyIf}
 use Rattle.leaf_work.specs.Lent.{roomRight, isOpen, isWaiting}
 use Rattle.leaf_work.specs.Flat.{listOf}
 use Rattle.leaf_work.specs.Sound.{sound}
@@ -181,7 +181,7 @@ module _ (size : ℕ) (w : Work) (list : List Entry) (store : List ℕ) (v : ℕ
 
 -- ---- the work record, and the outcome
 
-pub next-base-work-is : (w : Work) (s : List ℕ) (cut : Bool) (cutoff kept : List ℕ) (b : ℕ) → kept ≡ oneOf cut cutoff zeroKey → b ≡ bit cut
+pub next-base-work-is : (w : Work) (s : List ℕ) (cut : Bool) (cutoff kept : List ℕ) (b : ℕ) → kept ≡ cond cut cutoff zeroKey → b ≡ bit cut
     → _≡_ {A = Work} (record {
       turn = 1;
       based = 1;

@@ -15,7 +15,7 @@ use Rattle.leaf_model.specs.Work.{Change, plan}
 use Rattle.leaf_model.proofs.Lists.{all-append}
 use Rattle.leaf_work.specs.declared.Work.{Work}
 use Rattle.leaf_work.specs.declared.Entry.{Entry}
-use Rattle.leaf_work.specs.Tests.{isZero, oneOf}
+use Rattle.leaf_work.specs.Tests.{isZero}
 use Rattle.leaf_work.specs.Lent.{regarded, cutoffOf}
 use Rattle.leaf_work.specs.Pending.{pendingOf}
 use Rattle.leaf_work.specs.Verdict.{Opening, openVerdict, lentVerdict, digestVerdict}

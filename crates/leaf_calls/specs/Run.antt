@@ -2,7 +2,7 @@
 -- `leaf_split/specs/Digests.antt`): what a call is lent beside the page and its arguments is what the last one left. Document 01, "The tally of
 -- demand 3".
 use mathlib.Core.Path.{_≡_}
-use mathlib.Core.Bool.{Bool, true, false}
+use mathlib.Core.Bool.{Bool, true, false, cond}
 use mathlib.Core.Option.{Option}
 use mathlib.Core.List.{List, [], _∷_, _++_}
 use Prim.Native.Nat.{ℕ}
@@ -11,7 +11,7 @@ use lib.ListN.{length}
 use Rattle.leaf_model.specs.Work.{Change}
 use Rattle.leaf_work.specs.declared.Work.{Work}
 use Rattle.leaf_work.specs.declared.Entry.{Entry}
-use Rattle.leaf_work.specs.Tests.{isZero, oneOf}
+use Rattle.leaf_work.specs.Tests.{isZero}
 use Rattle.leaf_work.specs.Verdict.{Opening}
 use Rattle.leaf_work.specs.Digest.{DigestReply, DigestRefused, Finished, Merge}
 use Rattle.leaf_take.specs.declared.LeafReport.{LeafReport}
@@ -44,7 +44,7 @@ pub data Run : State → Type 0 where
         work = w′;
         list = s .list;
         store = s .store;
-        page = oneOf (isZero r) page (s .page);
+        page = cond (isZero r) page (s .page);
         given = s .given;
         tally = fed (next-base page separator cut cutoff) (isZero r) (s .tally);
       })

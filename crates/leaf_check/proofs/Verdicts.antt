@@ -1,6 +1,6 @@
 -- Nos. 1 to 8 in their order. Assumes nothing.
 use mathlib.Core.Path.{_≡_, sym, _∙_}
-use mathlib.Core.Bool.{Bool, true, false, not}
+use mathlib.Core.Bool.{Bool, true, false, not, cond}
 use mathlib.Core.List.{List, []}
 use Prim.Native.Nat.{ℕ, _≤_}
 use native.Mathlib.Omega.{arith}
@@ -8,7 +8,7 @@ use lib.ListN.{length}
 use borrow.Author.Tests.{eq-eqb, ne-eqb, not-true, not-false}
 use Rattle.refusal.specs.Refusal.{accepted, roomLength, unsound}
 use Rattle.leaf_work.specs.declared.Work.{Work}
-use Rattle.leaf_work.specs.Tests.{oneOf, isSet, keyIf}
+use Rattle.leaf_work.specs.Tests.{isSet, keyIf}
 use Rattle.leaf_work.specs.Lent.{roomRight, cutoffOf, readsBase, regarded}
 use Rattle.leaf_work.specs.Flat.{listOf}
 use Rattle.leaf_work.specs.Sound.{sound}
@@ -24,14 +24,14 @@ module _ (w : Work) (page : List ℕ) (t : Bool) (e : t ≡ readsBase w) where
   pub the-page-is-ignored : t ≡ false → [] ≡ regarded w page
   the-page-is-ignored h = rw (← e, h)
 
-  pub no-page-number : (size : ℕ) → not t ≡ true → 0 ≡ oneOf (readsBase w) (keysVerdict size page (w .latest) (cutoffOf w)) 0
+  pub no-page-number : (size : ℕ) → not t ≡ true → 0 ≡ cond (readsBase w) (keysVerdict size page (w .latest) (cutoffOf w)) 0
   no-page-number size h = rw (← e, not-true t h)
 
   pub the-page-number : (size v : ℕ) → not t ≡ false → v ≡ keysVerdict size page (w .latest) (keyIf (isSet (w .cut)) (w .cutoff))
-      → v ≡ oneOf (readsBase w) (keysVerdict size page (w .latest) (cutoffOf w)) 0
+      → v ≡ cond (readsBase w) (keysVerdict size page (w .latest) (cutoffOf w)) 0
   the-page-number size v h f = rw (← e, not-false t h) f
 
-module _ (size : ℕ) (w : Work) (rows keys : List (List ℕ)) (store page : List ℕ) (v : ℕ) (e : v ≡ oneOf (readsBase w) (keysVerdict size page (w .latest) (cutoffOf w)) 0) where
+module _ (size : ℕ) (w : Work) (rows keys : List (List ℕ)) (store page : List ℕ) (v : ℕ) (e : v ≡ cond (readsBase w) (keysVerdict size page (w .latest) (cutoffOf w)) 0) where
   pub the-page-is-refused : (v ≡ 0 → ⊥) → v ≡ lentVerdict size w (listOf rows keys) store page
   unfolding lentVerdict
   the-page-is-refused h = rw (← e, ne-eqb v 0 h, first) e
@@ -40,7 +40,7 @@ module _ (size : ℕ) (w : Work) (rows keys : List (List ℕ)) (store page : Lis
     pub a-regarded-page-is-good : Regardable size (regarded w page)
     a-regarded-page-is-good = go (readsBase w) (sym e ∙ z)
       where
-        go : (b : Bool) → oneOf b (keysVerdict size page (w .latest) (cutoffOf w)) 0 ≡ 0 → Regardable size (oneOf b page [])
+        go : (b : Bool) → cond b (keysVerdict size page (w .latest) (cutoffOf w)) 0 ≡ 0 → Regardable size (cond b page [])
         go true q = record { good = λ h. lent-page-is-good size page (w .latest) (cutoffOf w) q }
         go false q = record { good = λ h. absurd (omega (arith, h)) }
 
@@ -71,5 +71,5 @@ module _ (size : ℕ) (w : Work) (rows keys : List (List ℕ)) (store page : Lis
           unfolding lentVerdict
           all-passes i = rw (← e, eq-eqb v 0 z, first, ← f, not-false t h, ← k, ← g, not-false s i)
 
-pub the-regarded-is-good : (size : ℕ) (w : Work) (page p : List ℕ) (v : ℕ) → v ≡ oneOf (readsBase w) (keysVerdict size page (w .latest) (cutoffOf w)) 0 → v ≡ 0 → p ≡ regarded w page → Regardable size p
+pub the-regarded-is-good : (size : ℕ) (w : Work) (page p : List ℕ) (v : ℕ) → v ≡ cond (readsBase w) (keysVerdict size page (w .latest) (cutoffOf w)) 0 → v ≡ 0 → p ≡ regarded w page → Regardable size p
 the-regarded-is-good size w page p v e z k = rw k (a-regarded-page-is-good size w [] [] [] page v e z)

@@ -12,13 +12,13 @@ use leaf_work::Work;
 use refusal::ROOM_LENGTH;
 use refusal::UNSOUND;
 ghost use mathlib.Core.Path.{_≡_};
-ghost use mathlib.Core.Bool.{_&&_, _||_};
+ghost use mathlib.Core.Bool.{_&&_, _||_, cond};
 ghost use Prim.Native.Nat.{_≤_, _<_};
 ghost use lib.ListN.{length};
 ghost use Rattle.leaf_node.specs.Limits.{PageSize};
 ghost use Rattle.leaf_node.specs.Page.{count};
 ghost use Rattle.leaf_model.specs.Work.{aboveLast, belowCutoff};
-ghost use Rattle.leaf_work.specs.Tests.{implies, isZero, oneOf};
+ghost use Rattle.leaf_work.specs.Tests.{implies, isZero};
 ghost use Rattle.leaf_work.specs.Lent.{cutoffOf, lastOf, separatorOf, readsBase, regarded};
 ghost use Rattle.leaf_work.specs.Flat.{entriesOf, listOf};
 ghost use Rattle.leaf_work.specs.Sound.{letsIn, knownTurn, knownFlags, lastBelow, cutoffRight, floorAbove, floorAtTurn, absentZero, sound};
@@ -328,7 +328,7 @@ pub fn regard(work: Work, page: &[u8]) -> &[u8]
 // Nos. 1 to 6: the lent page, where the work reads it.
 pub fn page_verdict(work: Work, page: &[u8], size: usize) -> u8
     requires { ⌜ PageSize size ⌝ }
-    ensures { λ r. ⌜ r ≡ oneOf (readsBase work) (keysVerdict size (now (page .entry)) (work .latest) (cutoffOf work)) 0 ⌝ }
+    ensures { λ r. ⌜ r ≡ cond (readsBase work) (keysVerdict size (now (page .entry)) (work .latest) (cutoffOf work)) 0 ⌝ }
 {
     if !reads_base(work) {
         return 0;

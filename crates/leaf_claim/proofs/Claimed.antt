@@ -1,6 +1,6 @@
 -- Demand 3: the claim holds of every sequence of calls, refused ones among them, from any accepted opening; and from any sound work. Assumes nothing.
 use mathlib.Core.Path.{_≡_, refl, sym, ap, _∙_}
-use mathlib.Core.Bool.{Bool, true, false}
+use mathlib.Core.Bool.{Bool, true, false, cond}
 use mathlib.Core.Option.{Option}
 use mathlib.Core.List.{List, [], _∷_, _++_}
 use Prim.Native.Nat.{ℕ, _≤_}
@@ -19,7 +19,7 @@ use Rattle.leaf_model.proofs.AsThePaperSays.{cutting-as-the-paper-says}
 use Rattle.leaf_model.proofs.Separators.{linked-leaf-ends-where-the-next-starts}
 use Rattle.leaf_work.specs.declared.Work.{Work}
 use Rattle.leaf_work.specs.declared.Entry.{Entry}
-use Rattle.leaf_work.specs.Tests.{oneOf, isSet, bit, keyIf}
+use Rattle.leaf_work.specs.Tests.{isSet, bit, keyIf}
 use Rattle.leaf_work.specs.Lent.{turnNumber, cutoffOf, separatorOf, readsBase, regarded}
 use Rattle.leaf_work.specs.Pending.{listedOf, restOf, pendingOf}
 use Rattle.leaf_work.specs.Verdict.{Opening, openVerdict, lentVerdict}
@@ -42,7 +42,7 @@ use Rattle.leaf_claim.proofs.Refusals.{calls-are-refused-as-the-table-s
 
 -- what a digest writes for an override is one where records are kept, and none where nothing is
 override-is-kept : (s : List ℕ) (leaves : List (List Record)) (left : List Record)
-    → keyIf (isSet (bit (nonempty left))) (oneOf (nonempty left) (separatorAfter s leaves left) zeroKey) ≡ overrideAfter s leaves left
+    → keyIf (isSet (bit (nonempty left))) (cond (nonempty left) (separatorAfter s leaves left) zeroKey) ≡ overrideAfter s leaves left
 override-is-kept s leaves [] = refl
 override-is-kept s leaves (r ∷ rs) = refl
 
@@ -166,7 +166,7 @@ module _ (size : ℕ) (q : PageSize size) where
 
     -- ---- the same of each call by itself
 
-    lent-itself : (b : Bool) (page : List ℕ) → oneOf b page page ≡ page
+    lent-itself : (b : Bool) (page : List ℕ) → cond b page page ≡ page
     lent-itself true page = refl
     lent-itself false page = refl
 
@@ -178,7 +178,7 @@ module _ (size : ℕ) (q : PageSize size) where
         → lentVerdict size (ingestOf size w list store page k c .work) (ingestOf size w list store page k c .list) (ingestOf size w list store page k c .store) page ≡ 0
     ingest-leaves-sound-work k c f =
         let r : lentVerdict size (ingestOf size w list store page k c .work) (ingestOf size w list store page k c .list) (ingestOf size w list store page k c .store)
-        (oneOf (readsBase (ingestOf size w list store page k c .work)) page page)
+        (cond (readsBase (ingestOf size w list store page k c .work)) page page)
         ≡ 0 = rw (lent-itself (readsBase w) page) at (sound-after (ingest page k c) f page) in
         rw (lent-itself (readsBase (ingestOf size w list store page k c .work)) page) at r
 
@@ -207,7 +207,7 @@ module _ (size : ℕ) (q : PageSize size) where
         ap (λ (r : Digested). readsBase (r .work)) (sym same ∙ accepted-digest-is size q lent-state is-reached page area tickets ok)
         ∙ no-base-is-read-after-a-digest size w list store area tickets (cutting size q lent-state is-reached page area tickets) in
         let r : lentVerdict size (digestOf size w list store page area tickets .work) (digestOf size w list store page area tickets .list)
-        (digestOf size w list store page area tickets .store) (oneOf (readsBase (digestOf size w list store page area tickets .work)) page any)
+        (digestOf size w list store page area tickets .store) (cond (readsBase (digestOf size w list store page area tickets .work)) page any)
         ≡ 0 = rw same at (sound-after (digest page area tickets) tt any) in
         rw unread at r
 

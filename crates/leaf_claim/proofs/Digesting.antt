@@ -1,6 +1,6 @@
 -- An accepted digest: inserts alone are left, what the model sees then, and what is kept. Assumes nothing.
 use mathlib.Core.Path.{_≡_, refl, sym, ap, _∙_}
-use mathlib.Core.Bool.{Bool, true, false, true≢false}
+use mathlib.Core.Bool.{Bool, true, false, true≢false, cond}
 use mathlib.Core.List.{List, [], _∷_, _++_, append-nil}
 use Prim.Native.Nat.{ℕ, suc, _+_, _-_, _≤_}
 use native.Mathlib.Omega.{arith}
@@ -16,7 +16,7 @@ use Rattle.leaf_model.specs.Cut.{Cut}
 use Rattle.leaf_model.specs.Work.{zeroKey, turnAfter, separatorAfter, overrideAfter, floorAfter, workAfter}
 use Rattle.leaf_work.specs.declared.Work.{Work}
 use Rattle.leaf_work.specs.declared.Entry.{Entry}
-use Rattle.leaf_work.specs.Tests.{isSet, bit, keyIf, oneOf}
+use Rattle.leaf_work.specs.Tests.{isSet, bit, keyIf}
 use Rattle.leaf_work.specs.Lent.{blank, turnNumber, cutoffOf, lastOf, separatorOf, readsBase, regarded}
 use Rattle.leaf_work.specs.Pending.{listedOf, restOf, pendingOf}
 use Rattle.leaf_work.specs.Digest.{insertsOf, digestWork, digestDone}
@@ -34,7 +34,7 @@ not-open [] = refl
 not-open (r ∷ rs) = refl
 
 override-is : (s : List ℕ) (ls : List (List Record)) (rs : List Record)
-    → keyIf (isSet (bit (nonempty rs))) (oneOf (nonempty rs) (separatorAfter s ls rs) zeroKey) ≡ overrideAfter s ls rs
+    → keyIf (isSet (bit (nonempty rs))) (cond (nonempty rs) (separatorAfter s ls rs) zeroKey) ≡ overrideAfter s ls rs
 override-is s ls [] = refl
 override-is s ls (r ∷ rs) = refl
 

@@ -1,6 +1,6 @@
 -- Ingest, from a reached state, reaches a state. Assumes nothing.
 use mathlib.Core.Path.{_≡_, refl, sym, ap, ap₂, _∙_}
-use mathlib.Core.Bool.{Bool, true, false}
+use mathlib.Core.Bool.{Bool, true, false, cond}
 use mathlib.Core.Option.{Option}
 use mathlib.Core.List.{List, _++_}
 use Prim.Native.Nat.{ℕ, _+_, _≤_}
@@ -15,7 +15,6 @@ use Rattle.leaf_model.specs.Tally.{changed}
 use Rattle.leaf_model.proofs.Keys.{rising-right}
 use Rattle.leaf_model.proofs.Invariant.{ingest-keeps-the-invariant}
 use Rattle.leaf_work.specs.declared.Work.{Work}
-use Rattle.leaf_work.specs.Tests.{oneOf}
 use Rattle.leaf_work.specs.Lent.{isOpen, cutoffOf, regarded}
 use Rattle.leaf_work.specs.Pending.{listedOf, restOf}
 use Rattle.leaf_work.specs.Sound.{letsIn}
@@ -53,7 +52,7 @@ module _ (size : ℕ) (s : State) (h : Reached size s) (any k : List ℕ) (c : O
     store = r .store;
     page = s .page;
     given = s .given;
-    tally = oneOf (eqb (ingestNumber (r .reply)) 0) (changed k c (s .tally)) (s .tally);
+    tally = cond (eqb (ingestNumber (r .reply)) 0) (changed k c (s .tally)) (s .tally);
   }
 
   refused : eqb verdict 0 ≡ false → ingestOn size w (s .list) (s .store) p k c 0 ≡ record { reply = IngestRefused verdict; work = w; list = s .list; store = s .store }
@@ -77,7 +76,7 @@ module _ (size : ℕ) (s : State) (h : Reached size s) (any k : List ℕ) (c : O
   refused-ingest-changes-nothing : eqb verdict 0 ≡ false → next size s (ingest any k c) ≡ s
   refused-ingest-changes-nothing e =
       ap after (ingest-of-a-reached-state ∙ refused e)
-      ∙ ap (λ (b : Bool). record { work = w; list = s .list; store = s .store; page = s .page; given = s .given; tally = oneOf b (changed k c (s .tally)) (s .tally) }) e
+      ∙ ap (λ (b : Bool). record { work = w; list = s .list; store = s .store; page = s .page; given = s .given; tally = cond b (changed k c (s .tally)) (s .tally) }) e
 
   abbrev ingested-state : State
   ingested-state = record {
@@ -94,7 +93,7 @@ module _ (size : ℕ) (s : State) (h : Reached size s) (any k : List ℕ) (c : O
       let d = ingestDone size w (s .list) (s .store) p k c in
       let n : eqb (ingestNumber (d .reply)) 0 ≡ true = eq-eqb _ _ report-is-no-refusal in
       ap after (ingest-of-a-reached-state ∙ taken e)
-      ∙ ap (λ (b : Bool). record { work = d .work; list = d .list; store = d .store; page = s .page; given = s .given; tally = oneOf b (changed k c (s .tally)) (s .tally) }) n
+      ∙ ap (λ (b : Bool). record { work = d .work; list = d .list; store = d .store; page = s .page; given = s .given; tally = cond b (changed k c (s .tally)) (s .tally) }) n
 
   record Passed : Type 0 where
     turn : isOpen w ≡ true

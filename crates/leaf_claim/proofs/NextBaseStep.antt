@@ -1,6 +1,6 @@
 -- Next base, from a reached state, reaches a state. Assumes nothing.
 use mathlib.Core.Path.{_≡_, refl, sym, ap, _∙_}
-use mathlib.Core.Bool.{Bool, true, false, not, true≢false}
+use mathlib.Core.Bool.{Bool, true, false, not, true≢false, cond}
 use mathlib.Core.Option.{Option, none, some}
 use mathlib.Core.List.{List, [], _++_}
 use Prim.Native.Nat.{ℕ, _+_, _≤_}
@@ -22,7 +22,7 @@ use Rattle.leaf_model.proofs.Keys.{lt-of-test, le-of-test, test-of-lt}
 use Rattle.leaf_model.proofs.Bases.{base-facts, next-base-keeps-the-invariant}
 use Rattle.leaf_work.specs.declared.Work.{Work}
 use Rattle.leaf_work.specs.declared.Entry.{Entry}
-use Rattle.leaf_work.specs.Tests.{isSet, keyIf, oneOf}
+use Rattle.leaf_work.specs.Tests.{isSet, keyIf}
 use Rattle.leaf_work.specs.Lent.{roomRight, turnNumber, isOpen, cutoffOf, overrideOf, lastOf, regarded}
 use Rattle.leaf_work.specs.Pending.{listedOf, restOf, pendingOf}
 use Rattle.leaf_work.specs.Sound.{sound}
@@ -97,7 +97,7 @@ module _ (size : ℕ) (q : PageSize size) (s : State) (h : Reached size s) (page
   verdict = nextBaseVerdict size w (s .list) (s .store) page sep (keyIf cut key)
 
   abbrev moved : Work → Bool → State
-  moved x b = record { work = x; list = s .list; store = s .store; page = oneOf b page (s .page); given = s .given; tally = oneOf b (s .tally ++ records page) (s .tally) }
+  moved x b = record { work = x; list = s .list; store = s .store; page = cond b page (s .page); given = s .given; tally = cond b (s .tally ++ records page) (s .tally) }
 
   abbrev after : Changed → State
   after r = moved (r .work) (eqb (replyNumber (r .reply)) 0)

@@ -1,6 +1,6 @@
 -- What holds of each state that a sequence reaches; what such a state hands on earns none of Nos. 1 to 8. Assumes nothing.
 use mathlib.Core.Path.{_≡_, refl}
-use mathlib.Core.Bool.{Bool, true, false}
+use mathlib.Core.Bool.{Bool, true, false, cond}
 use mathlib.Core.List.{List, [], _++_}
 use Prim.Native.Nat.{ℕ}
 use lib.ListN.{length}
@@ -11,7 +11,7 @@ use Rattle.leaf_model.specs.Claim.{recordsOf}
 use Rattle.leaf_model.proofs.Lists.{all-right, all-map}
 use Rattle.leaf_model.proofs.Keys.{rising-right}
 use Rattle.leaf_work.specs.declared.Work.{Work}
-use Rattle.leaf_work.specs.Tests.{oneOf, isSet, keyIf}
+use Rattle.leaf_work.specs.Tests.{isSet, keyIf}
 use Rattle.leaf_work.specs.Lent.{cutoffOf, separatorOf, readsBase, regarded}
 use Rattle.leaf_work.specs.Pending.{listedOf, restOf}
 use Rattle.leaf_work.specs.Verdict.{keysVerdict, lentVerdict}
@@ -29,7 +29,7 @@ equal-states-are-reached size s s′ e h = rw e h
 pub regarded-lent : (s : State) (any : List ℕ) → regarded (s .work) (lent s any) ≡ regarded (s .work) (s .page)
 regarded-lent s any = go (readsBase (s .work))
   where
-    go : (b : Bool) → oneOf b (oneOf b (s .page) any) [] ≡ oneOf b (s .page) []
+    go : (b : Bool) → cond b (cond b (s .page) any) [] ≡ cond b (s .page) []
     go true = refl
     go false = refl
 
@@ -37,7 +37,7 @@ module _ (size : ℕ) (s : State) (h : Reached size s) where
   abbrev w : Work
   w = s .work
 
-  page-lent : (b : Bool) (any : List ℕ) → oneOf b (keysVerdict size (oneOf b (s .page) any) (w .latest) (cutoffOf w)) 0 ≡ oneOf b (keysVerdict size (s .page) (w .latest) (cutoffOf w)) 0
+  page-lent : (b : Bool) (any : List ℕ) → cond b (keysVerdict size (cond b (s .page) any) (w .latest) (cutoffOf w)) 0 ≡ cond b (keysVerdict size (s .page) (w .latest) (cutoffOf w)) 0
   page-lent true any = refl
   page-lent false any = refl
 

@@ -1,6 +1,6 @@
 -- The twin call answers the pending records, whatever page is lent where the work ignores it. Assumes nothing.
 use mathlib.Core.Path.{_≡_, refl, sym, ap, _∙_}
-use mathlib.Core.Bool.{Bool, true, false}
+use mathlib.Core.Bool.{Bool, true, false, cond}
 use mathlib.Core.List.{List, [], _∷_, append-nil, map}
 use Prim.Native.Nat.{ℕ, suc, _+_, _-_, _≤_}
 use native.Mathlib.Omega.{arith}
@@ -10,7 +10,7 @@ use Rattle.leaf_node.specs.Record.{Record}
 use Rattle.leaf_node.specs.Page.{count, run}
 use Rattle.leaf_node.specs.Fits.{All, nil, cons}
 use Rattle.leaf_work.specs.declared.Work.{Work}
-use Rattle.leaf_work.specs.Tests.{oneOf, isSet, bit}
+use Rattle.leaf_work.specs.Tests.{isSet, bit}
 use Rattle.leaf_work.specs.Lent.{readsBase, regarded}
 use Rattle.leaf_work.specs.Pending.{Place, held, inBase, chunkPlaces, entryPlaces, placesOf, listedPlaces, restPlaces, pendingPlaces, pendingOf}
 use Rattle.leaf_work.specs.Outcome.{TwinReply, nthPlace, twinOn, twinOf}
@@ -46,8 +46,8 @@ module _ (size : ℕ) (s : State) (h : Reached size s) where
   abbrev w : Work
   w = s .work
 
-  held-same : (b : Bool) (page any : List ℕ) (ops : List Op) → Laid w (s .list) (s .store) (oneOf b page []) ops
-      → map (held (s .store) (oneOf b page any)) (pendingPlaces w (s .list) (oneOf b page [])) ≡ map (held (s .store) (oneOf b page [])) (pendingPlaces w (s .list) (oneOf b page []))
+  held-same : (b : Bool) (page any : List ℕ) (ops : List Op) → Laid w (s .list) (s .store) (cond b page []) ops
+      → map (held (s .store) (cond b page any)) (pendingPlaces w (s .list) (cond b page [])) ≡ map (held (s .store) (cond b page [])) (pendingPlaces w (s .list) (cond b page []))
   held-same true page any ops l = refl
   held-same false page any ops l =
       let n : w .low ≤ 0 = omega (arith, l .low-in, an-ignored-page-has-no-records) in

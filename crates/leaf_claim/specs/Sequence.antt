@@ -1,6 +1,6 @@
 -- Document 01, "The tally of demand 3": a sequence of calls from an opening, over the bytes that the calls are lent and leave.
 use mathlib.Core.Path.{_≡_}
-use mathlib.Core.Bool.{Bool, true, false}
+use mathlib.Core.Bool.{Bool, true, false, cond}
 use mathlib.Core.Option.{Option}
 use mathlib.Core.List.{List, [], _∷_, _++_}
 use Prim.Native.Nat.{ℕ, zero, suc}
@@ -14,7 +14,6 @@ use Rattle.leaf_model.specs.Work.{Change, Leaf, isLinked}
 use Rattle.leaf_model.specs.Tally.{changed}
 use Rattle.leaf_work.specs.declared.Work.{Work}
 use Rattle.leaf_work.specs.declared.Entry.{Entry}
-use Rattle.leaf_work.specs.Tests.{oneOf}
 use Rattle.leaf_work.specs.Lent.{readsBase}
 use Rattle.leaf_work.specs.Pending.{Place, held}
 use Rattle.leaf_work.specs.Verdict.{Opening, with-base, with-none}
@@ -45,7 +44,7 @@ pub record State : Type 0 where
 
 -- "The base page of a call is the page of the opening or of the last accepted next base; any page where the work ignores it."
 abbrev pub lent : State → List ℕ → List ℕ
-lent s any = oneOf (readsBase (s .work)) (s .page) any
+lent s any = cond (readsBase (s .work)) (s .page) any
 
 -- ---- the tally: "It is fed only the calls (key, new value and flag, or page) and whether each was refused."
 
@@ -56,9 +55,9 @@ openedTally (with-none cut) = []
 
 -- "Next base: the new page's records go behind." "Digest, cutoff removal, any refused call: no change."
 abbrev pub fed : Call → Bool → List Record → List Record
-fed (ingest any k c) taken t = oneOf taken (changed k c t) t
+fed (ingest any k c) taken t = cond taken (changed k c t) t
 fed (digest any area tickets) taken t = t
-fed (next-base page separator cut cutoff) taken t = oneOf taken (t ++ records page) t
+fed (next-base page separator cut cutoff) taken t = cond taken (t ++ records page) t
 fed remove-cutoff taken t = t
 
 -- ---- a step
@@ -99,7 +98,7 @@ next size s (next-base page separator cut cutoff) =
       work = r .work;
       list = s .list;
       store = s .store;
-      page = oneOf taken page (s .page);
+      page = cond taken page (s .page);
       given = s .given;
       tally = fed (next-base page separator cut cutoff) taken (s .tally);
     }

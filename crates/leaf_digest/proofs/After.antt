@@ -1,6 +1,6 @@
 -- What a digest leaves: the work record, list, store, area and tickets. Assumes nothing.
 use mathlib.Core.Path.{_≡_, refl}
-use mathlib.Core.Bool.{Bool, true, false}
+use mathlib.Core.Bool.{Bool, true, false, cond}
 use mathlib.Core.List.{List, [], _∷_}
 use Prim.Native.Nat.{ℕ, _-_}
 use native.Mathlib.Omega.{arith}
@@ -9,7 +9,7 @@ use borrow.Author.Tests.{eq-eqb, ne-eqb}
 use Rattle.leaf_node.specs.Record.{Record, total}
 use Rattle.leaf_model.specs.Work.{zeroKey, orElse, separatorAfter}
 use Rattle.leaf_work.specs.declared.Work.{Work}
-use Rattle.leaf_work.specs.Tests.{isSet, oneOf, keyIf}
+use Rattle.leaf_work.specs.Tests.{isSet, keyIf}
 use Rattle.leaf_work.specs.Lent.{separatorOf}
 use Rattle.leaf_work.specs.Digest.{digestWork}
 use Rattle.leaf_cut.specs.declared.Gauge.{Gauge}
@@ -50,7 +50,7 @@ module _ (w : Work) (g : Gauge) (s : List ℕ) where
   unfolding digestWorkBy
   records-are-kept h k = rw (ne-eqb (g .count) 0 h, eq-eqb (w .cut) 0 k)
 
-either-floor : (b : Bool) (k f : List ℕ) → oneOf b k f ≡ orElse (keyIf b k) f
+either-floor : (b : Bool) (k f : List ℕ) → cond b k f ≡ orElse (keyIf b k) f
 either-floor true k f = refl
 either-floor false k f = refl
 

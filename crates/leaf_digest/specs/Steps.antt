@@ -1,6 +1,6 @@
 -- What the functions require, as plain facts, and small definitions that their contracts cite.
 use mathlib.Core.Path.{_≡_}
-use mathlib.Core.Bool.{true, _&&_}
+use mathlib.Core.Bool.{true, _&&_, cond}
 use mathlib.Core.List.{List, map}
 use Prim.Native.Nat.{ℕ, _+_, _-_, _*_}
 use lib.ListN.{length, take, drop}
@@ -9,7 +9,7 @@ use Rattle.leaf_model.specs.Work.{Waiting, Done, zeroKey}
 use Rattle.leaf_work.specs.declared.Work.{Work}
 use Rattle.leaf_work.specs.declared.Entry.{Entry}
 use Rattle.leaf_work.specs.Verdict.{lentVerdict}
-use Rattle.leaf_work.specs.Tests.{every, isZero, isSet, bit, oneOf}
+use Rattle.leaf_work.specs.Tests.{every, isZero, isSet, bit}
 use Rattle.leaf_work.specs.Lent.{turnNumber}
 use Rattle.leaf_work.specs.Flat.{listOf, rowOf}
 use Rattle.leaf_work.specs.Sound.{placed}
@@ -34,7 +34,7 @@ bodyWith listed page low = 34 * (listed .count + (count page - low)) + (listed .
 -- records; `proofs/After.antt` shows that they agree
 unfoldable pub digestWorkBy : Work → Gauge → List ℕ → Work
 digestWorkBy w left separator = record {
-  turn = oneOf (isZero (left .count)) (turnNumber Done) (turnNumber Waiting);
+  turn = cond (isZero (left .count)) (turnNumber Done) (turnNumber Waiting);
   based = w .based;
   low = 0;
   used = left .count;
@@ -45,8 +45,8 @@ digestWorkBy w left separator = record {
   cut = w .cut;
   cutoff = w .cutoff;
   over = bit (isSet (left .count));
-  overriding = oneOf (isSet (left .count)) separator zeroKey;
-  floor = oneOf (isSet (left .count) && isSet (w .cut)) (w .cutoff) (w .floor);
+  overriding = cond (isSet (left .count)) separator zeroKey;
+  floor = cond (isSet (left .count) && isSet (w .cut)) (w .cutoff) (w .floor);
   taken = w .taken;
   last = w .last;
 }

@@ -1,6 +1,6 @@
 -- One leaf: its page in the area, its ticket, and what follows it. Assumes nothing.
 use mathlib.Core.Path.{_≡_, refl, sym, ap, ap₂, _∙_}
-use mathlib.Core.Bool.{Bool, true, false, not, _&&_}
+use mathlib.Core.Bool.{Bool, true, false, not, _&&_, cond}
 use mathlib.Core.Option.{Option, some}
 use mathlib.Core.List.{List, [], _∷_, _++_, append-assoc}
 use Prim.Native.Nat.{ℕ, _+_, _-_, _*_, _/_, _≤_, _<_}
@@ -25,7 +25,7 @@ use Rattle.leaf_node.proofs.Copying.{put-all}
 use Rattle.leaf_node.proofs.RoundTrips.{a-built-page-is-full-length}
 use Rattle.leaf_model.specs.Basics.{nonempty}
 use Rattle.leaf_model.specs.Work.{zeroKey, lastKey, leafCutoff, isRising}
-use Rattle.leaf_work.specs.Tests.{oneOf, keyIf}
+use Rattle.leaf_work.specs.Tests.{keyIf}
 use Rattle.leaf_work.proofs.Operations.{total-append}
 use Rattle.leaf_cut.specs.declared.Gauge.{Gauge}
 use Rattle.leaf_cut.specs.declared.Span.{Span}
@@ -198,7 +198,7 @@ module _ (size : ℕ) (rows keys : List (List ℕ)) (store page : List ℕ) (s :
         (record { at = at; left = record { count = p .left .count - leaf .count; bytes = p .left .bytes - leaf .bytes }; leaves = p .leaves + 1; place = place; separator = separator })
         built lent′
     a-leaf-is-given cutoff lent place separator lent′ t =
-        let o : oneOf (not (eqb (p .left .count - leaf .count) 0)) (some between) cutoff ≡ leafCutoff l b cutoff = the-cutoff-of-a-leaf l between cutoff b (p .left .count - leaf .count) the-records-left separated in
+        let o : cond (not (eqb (p .left .count - leaf .count) 0)) (some between) cutoff ≡ leafCutoff l b cutoff = the-cutoff-of-a-leaf l between cutoff b (p .left .count - leaf .count) the-records-left separated in
         record {
           area-is = q;
           tickets-are = t .tickets-are ∙ ap (λ (x : Option (List ℕ)). put lent (p .place) (packedWith (p .separator) x)) o;

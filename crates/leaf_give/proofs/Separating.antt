@@ -1,6 +1,6 @@
 -- The separators and tickets of a row of leaves: what one more leaf adds to them. Assumes nothing.
 use mathlib.Core.Path.{_≡_, refl, sym, ap, _∙_}
-use mathlib.Core.Bool.{Bool, true, false, not}
+use mathlib.Core.Bool.{Bool, true, false, not, cond}
 use mathlib.Core.Option.{Option, some}
 use mathlib.Core.List.{List, [], _∷_, _++_, append-nil, append-assoc, map}
 use Prim.Native.Nat.{ℕ, _+_}
@@ -17,7 +17,6 @@ use Rattle.leaf_model.specs.Basics.{joined, nonempty}
 use Rattle.leaf_model.specs.Work.{leafCutoff, nextSeparator, lastKey, withSeparators, separatorAfter, isRising}
 use Rattle.leaf_model.proofs.Tests.{and-left, and-right, clash}
 use Rattle.leaf_model.proofs.Lists.{joined-append}
-use Rattle.leaf_work.specs.Tests.{oneOf}
 use Rattle.leaf_work.specs.Digest.{pagesOf, ticketsOf}
 
 -- ---- between a leaf and what follows it
@@ -35,12 +34,12 @@ the-next-key-is-above-a-leaf (x ∷ y ∷ ys) r rs n h =
 -- by how many records follow
 module _ (l : List Record) (between : List ℕ) where
   pub the-cutoff-of-a-leaf : (cutoff : Option (List ℕ)) (b : List Record) (n : ℕ) → n ≡ length b → ((r : Record) (rs : List Record) → b ≡ r ∷ rs → between ≡ separateOf (lastKey l) (r .key))
-      → oneOf (not (eqb n 0)) (some between) cutoff ≡ leafCutoff l b cutoff
+      → cond (not (eqb n 0)) (some between) cutoff ≡ leafCutoff l b cutoff
   the-cutoff-of-a-leaf cutoff [] n e f = rw (eq-eqb n 0 e)
   the-cutoff-of-a-leaf cutoff (r ∷ rs) n e f = rw (ne-eqb n 0 (λ (z : n ≡ 0). omega arith)) (ap some (f r rs refl))
 
   pub the-separator-behind-a-leaf : (s : List ℕ) (b : List Record) (n : ℕ) → n ≡ length b → ((r : Record) (rs : List Record) → b ≡ r ∷ rs → between ≡ separateOf (lastKey l) (r .key))
-      → oneOf (not (eqb n 0)) between s ≡ nextSeparator s l b
+      → cond (not (eqb n 0)) between s ≡ nextSeparator s l b
   the-separator-behind-a-leaf s [] n e f = rw (eq-eqb n 0 e)
   the-separator-behind-a-leaf s (r ∷ rs) n e f = rw (ne-eqb n 0 (λ (z : n ≡ 0). omega arith)) (f r rs refl)
 

@@ -1,6 +1,6 @@
 -- One leaf given out, and a row of them: what is required, and what is left behind. `page` is the page as the work regards it.
 use mathlib.Core.Path.{_≡_}
-use mathlib.Core.Bool.{Bool, true}
+use mathlib.Core.Bool.{Bool, true, cond}
 use mathlib.Core.Option.{Option, some}
 use mathlib.Core.List.{List, _++_, map}
 use Prim.Native.Nat.{ℕ, _+_, _*_, _≤_, _<_}
@@ -13,7 +13,6 @@ use Rattle.leaf_model.specs.Basics.{joined}
 use Rattle.leaf_model.specs.Cut.{Cut}
 use Rattle.leaf_model.specs.Work.{leafCutoff, nextSeparator, isRising, separatorAfter, leavesBy}
 use Rattle.leaf_work.specs.declared.Work.{Work}
-use Rattle.leaf_work.specs.Tests.{oneOf}
 use Rattle.leaf_work.specs.Lent.{cutoffOf, separatorOf}
 use Rattle.leaf_work.specs.Digest.{ticketsOf, overwrite}
 use Rattle.leaf_cut.specs.declared.Gauge.{Gauge}
@@ -29,10 +28,10 @@ use Rattle.leaf_give.specs.Giving.{pending}
 
 -- A leaf with this separator got its ticket at byte `place`. With `more` there are records behind it, and `between` separates them from the leaf.
 pub record TicketGiven (more : Bool) (between : List ℕ) (cutoff : Option (List ℕ)) (tickets : List ℕ) (place : ℕ) (separator : List ℕ) (next : ℕ) (separator′ tickets′ : List ℕ) : Type 0 where
-  pub tickets-are : tickets′ ≡ put tickets place (packedWith separator (oneOf more (some between) cutoff))
-  pub place-is : next ≡ place + length (packedWith separator (oneOf more (some between) cutoff))
+  pub tickets-are : tickets′ ≡ put tickets place (packedWith separator (cond more (some between) cutoff))
+  pub place-is : next ≡ place + length (packedWith separator (cond more (some between) cutoff))
   pub short : next ≤ place + 65
-  pub separator-is : separator′ ≡ oneOf more between separator
+  pub separator-is : separator′ ≡ cond more between separator
   pub long : length separator′ ≡ 32
 
 -- ---- one leaf, behind which stands the cursor `at`

@@ -107,7 +107,6 @@ addedBy Delete = 0
 
 -- ---- what it writes
 
-
 abbrev pub rowsOf : List Entry → List (List ℕ)
 rowsOf es = map rowOf es
 

@@ -1,6 +1,6 @@
 -- Openings: their number, and what they leave. Assumes nothing.
 use mathlib.Core.Path.{_≡_, refl, sym, ap, _∙_}
-use mathlib.Core.Bool.{Bool, true, false, not}
+use mathlib.Core.Bool.{Bool, true, false, not, cond}
 use mathlib.Core.List.{List, _∷_, map}
 use Prim.Native.Nat.{ℕ, zero, suc}
 use native.Mathlib.Omega.{arith}
@@ -11,7 +11,7 @@ use Rattle.bit_ops.specs.Steps.{zeros}
 use Rattle.leaf_model.specs.Work.{zeroKey}
 use Rattle.leaf_work.specs.declared.Work.{Work}
 use Rattle.leaf_work.specs.declared.Entry.{Entry}
-use Rattle.leaf_work.specs.Tests.{oneOf, bit, keyIf}
+use Rattle.leaf_work.specs.Tests.{bit, keyIf}
 use Rattle.leaf_work.specs.Lent.{roomRight, blank}
 use Rattle.leaf_work.specs.Flat.{listOf, rowOf, rowsAfter, keysAfter}
 use Rattle.leaf_work.specs.Verdict.{unless, first, baseVerdict, Opening, openVerdict}
@@ -53,8 +53,8 @@ module _ (size : ℕ) (based : Bool) (page sep : List ℕ) (cut : Bool) (cutoff 
 
 -- ---- the work record
 
-pub fresh-work-is : (based : Bool) (sep : List ℕ) (cut : Bool) (cutoff : List ℕ) (lowest kept : List ℕ) (b c : ℕ) → lowest ≡ oneOf based sep zeroKey → b ≡ bit based
-    → c ≡ bit cut → kept ≡ oneOf cut cutoff zeroKey
+pub fresh-work-is : (based : Bool) (sep : List ℕ) (cut : Bool) (cutoff : List ℕ) (lowest kept : List ℕ) (b c : ℕ) → lowest ≡ cond based sep zeroKey → b ≡ bit based
+    → c ≡ bit cut → kept ≡ cond cut cutoff zeroKey
     → _≡_ {A = Work} (record {
       turn = 1;
       based = b;
@@ -71,12 +71,12 @@ pub fresh-work-is : (based : Bool) (sep : List ℕ) (cut : Bool) (cutoff : List 
       floor = lowest;
       taken = 0;
       last = replicate 32 0;
-    }) (freshWork based (oneOf based sep zeroKey) cut cutoff)
+    }) (freshWork based (cond based sep zeroKey) cut cutoff)
 fresh-work-is based sep cut cutoff lowest kept b c e₁ e₂ e₃ e₄ = rw (e₁, e₂, e₃, e₄)
 
 pub fresh-work-is-open : (size : ℕ) (based : Bool) (page sep : List ℕ) (cut : Bool) (cutoff : List ℕ) (list : List Entry) (store : List ℕ)
     → openVerdict size (openingOf based page sep cut cutoff) list store ≡ 0
-    → freshWork based (oneOf based sep zeroKey) cut cutoff ≡ openWork (openingOf based page sep cut cutoff)
+    → freshWork based (cond based sep zeroKey) cut cutoff ≡ openWork (openingOf based page sep cut cutoff)
 unfolding openVerdict openingOf
 fresh-work-is-open size true page sep cut cutoff list store e = refl
 fresh-work-is-open size false page sep true cutoff list store e = absurd (omega arith)
@@ -124,7 +124,7 @@ module _ (size : ℕ) (based : Bool) (page sep : List ℕ) (cut : Bool) (cutoff 
         let d : length rows ≡ length keys = rows-and-keys-are-as-many rows keys size store (c .0) in
         (the-list-is-as-long-as-its-rows rows keys d, the-list-is-as-long-as-its-rows rows keys d ∙ d)
 
-    pub an-accepted-opening-clears-all : (r : Work) (rows′ keys′ : List (List ℕ)) (store′ : List ℕ) → r ≡ freshWork based (oneOf based sep zeroKey) cut cutoff
+    pub an-accepted-opening-clears-all : (r : Work) (rows′ keys′ : List (List ℕ)) (store′ : List ℕ) → r ≡ freshWork based (cond based sep zeroKey) cut cutoff
         → rows′ ≡ replicate (length rows) (rowOf blank) → keys′ ≡ replicate (length keys) zeroKey → store′ ≡ zeros (length store)
         → (0 ≡ replyNumber (outcome .reply)) × (r ≡ outcome .work) × (rows′ ≡ rowsAfter (replyNumber (outcome .reply)) (outcome .list) rows)
         × (keys′ ≡ keysAfter (replyNumber (outcome .reply)) (outcome .list) keys) × (store′ ≡ outcome .store)

@@ -10,9 +10,10 @@ use leaf_work::Work;
 use refusal::BAD_BOUNDS;
 use refusal::ROOM_LENGTH;
 ghost use mathlib.Core.Path.{_≡_};
+ghost use mathlib.Core.Bool.{cond};
 ghost use Rattle.leaf_node.specs.Limits.{PageSize};
 ghost use Rattle.leaf_model.specs.Work.{zeroKey};
-ghost use Rattle.leaf_work.specs.Tests.{oneOf, bit};
+ghost use Rattle.leaf_work.specs.Tests.{bit};
 ghost use Rattle.leaf_work.specs.Flat.{listOf, rowsAfter, keysAfter};
 ghost use Rattle.leaf_work.specs.Verdict.{openVerdict};
 ghost use Rattle.leaf_work.specs.Outcome.{replyNumber, freshWork, Opened, openOf};
@@ -37,7 +38,7 @@ pub fn bit_of(flag: bool) -> u8
 }
 
 pub fn key_or_zeros(there: bool, key: &[u8; 32]) -> [u8; 32]
-    ensures { λ r. ⌜ r ≡ oneOf there (now (key .entry)) zeroKey ⌝ }
+    ensures { λ r. ⌜ r ≡ cond there (now (key .entry)) zeroKey ⌝ }
 {
     if there {
         return *key;
@@ -95,7 +96,7 @@ fn open_verdict(
 
 // An open work with nothing listed. Without a base its separator is zeros.
 pub fn fresh_work(based: bool, separator: &[u8; 32], cut: bool, cutoff: &[u8; 32]) -> Work
-    ensures { λ r. ⌜ r ≡ freshWork based (oneOf based (now (separator .entry)) zeroKey) cut (now (cutoff .entry)) ⌝ }
+    ensures { λ r. ⌜ r ≡ freshWork based (cond based (now (separator .entry)) zeroKey) cut (now (cutoff .entry)) ⌝ }
 {
     let lowest = key_or_zeros(based, separator);
     Work {

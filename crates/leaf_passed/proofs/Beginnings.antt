@@ -1,6 +1,6 @@
 -- How a pass begins, and one entry more. Assumes nothing.
 use mathlib.Core.Path.{_≡_, refl, sym, ap, _∙_}
-use mathlib.Core.Bool.{Bool, true, false, not, _&&_, false≢true}
+use mathlib.Core.Bool.{Bool, true, false, not, _&&_, false≢true, cond}
 use mathlib.Core.List.{List, []}
 use Prim.Native.Nat.{ℕ, _≤_, _<_}
 use native.Mathlib.Omega.{arith}
@@ -13,7 +13,7 @@ use Rattle.leaf_model.proofs.Tests.{and-left, and-right}
 use Rattle.leaf_work.specs.declared.Work.{Work}
 use Rattle.leaf_work.specs.declared.Entry.{Entry}
 use Rattle.leaf_model.specs.Work.{zeroKey}
-use Rattle.leaf_work.specs.Tests.{sameBytes, oneOf}
+use Rattle.leaf_work.specs.Tests.{sameBytes}
 use Rattle.leaf_work.specs.Lent.{separatorOf, readsBase, regarded, cutoffOf, anInsert}
 use Rattle.leaf_work.specs.Flat.{entryOf, rowOf}
 use Rattle.leaf_work.specs.Sound.{isBlank}
@@ -56,17 +56,17 @@ begun-small : (size : ℕ) (w : Work) → Small (boundsOf size w) (begun (separa
 begun-small size w = it-begins-small (boundsOf size w) (begun (separatorOf w)) (separatorOf w) refl
 
 module _ (size : ℕ) (q : PageSize size) (w : Work) where
-  goes-on : (number : ℕ) (reads : Bool) (n : ℕ) (page : List ℕ) → Regardable size (oneOf reads page []) → n ≡ count (oneOf reads page []) → n ≤ 32767
+  goes-on : (number : ℕ) (reads : Bool) (n : ℕ) (page : List ℕ) → Regardable size (cond reads page []) → n ≡ count (cond reads page []) → n ≤ 32767
       → PassingOn (beginning size w number reads n) page
   goes-on number reads n page g c few = record {
-    sees = λ h. the-pass-sees size q w (oneOf reads page []) g n c few 4096 65536 (inside w number n h) (omega arith) (omega arith);
+    sees = λ h. the-pass-sees size q w (cond reads page []) g n c few 4096 65536 (inside w number n h) (omega arith) (omega arith);
     small = begun-small size w;
   }
 
   stays : (number : ℕ) (reads : Bool) (n : ℕ) (page : List ℕ) → (number ≡ 0 → ⊥) → PassingOn (beginning size w number reads n) page
   stays number reads n page h = record { sees = λ e. absurd (false≢true (sym (a-refused-page-is-not-passed w number n h) ∙ e)); small = begun-small size w }
 
-  module _ (page : List ℕ) (reads : Bool) (e : reads ≡ readsBase w) (number : ℕ) (f : number ≡ oneOf (readsBase w) (keysVerdict size page (w .latest) (cutoffOf w)) 0) (x : Passing) where
+  module _ (page : List ℕ) (reads : Bool) (e : reads ≡ readsBase w) (number : ℕ) (f : number ≡ cond (readsBase w) (keysVerdict size page (w .latest) (cutoffOf w)) 0) (x : Passing) where
     pub a-refused-page-is-not-counted : (number ≡ 0 → ⊥) → x ≡ beginning size w number reads 0 → (x ≡ beginningOf size w page) × (PassingOn x page)
     unfolding beginningOf
     a-refused-page-is-not-counted h k = rw k (rw (← f, ne-eqb number 0 h, e) refl, stays number reads 0 page h)
@@ -75,8 +75,8 @@ module _ (size : ℕ) (q : PageSize size) (w : Work) where
         → (x ≡ beginningOf size w page) × (PassingOn x page)
     unfolding beginningOf
     a-good-page-is-counted z p k n c few h =
-        let g : Regardable size (oneOf reads page []) = rw e (the-regarded-is-good size w page (regarded w page) number f z refl) in
-        let m : n ≡ count (oneOf reads page []) = rw (e, ← k) c in
+        let g : Regardable size (cond reads page []) = rw e (the-regarded-is-good size w page (regarded w page) number f z refl) in
+        let m : n ≡ count (cond reads page []) = rw (e, ← k) c in
         rw h (rw (← f, z, e, c, k) refl, goes-on 0 reads n page g m few)
 
   none-good : Regardable size []
@@ -97,14 +97,14 @@ module _ (page : List ℕ) (at : Passing) (e : Entry) where
   unfolding passedOne
   a-stopped-pass-stays h o = (rw (not-true (at .go) h), o)
 
-  pub a-pass-goes-on : not (at .go) ≡ false → PassingOn at page → (p : List ℕ) → p ≡ oneOf (at .reads) page [] → (z : Pass)
+  pub a-pass-goes-on : not (at .go) ≡ false → PassingOn at page → (p : List ℕ) → p ≡ cond (at .reads) page [] → (z : Pass)
       → (z ≡ passed (at .bounds) p (at .pass) (entryOf (rowOf e) (e .key))) × (Small (at .bounds) z)
       → (_≡_ {A = Passing} (record { number = at .number; go = at .go; reads = at .reads; n = at .n; bounds = at .bounds; pass = z }) (passedOne page at e))
       × (PassingOn (record { number = at .number; go = at .go; reads = at .reads; n = at .n; bounds = at .bounds; pass = z }) page)
   unfolding passedOne
   a-pass-goes-on h o p k z f = (rw (not-false (at .go) h, f .0, k), record { sees = o .sees; small = f .1 })
 
-  pub a-pass-sees-its-page : not (at .go) ≡ false → PassingOn at page → (p : List ℕ) → p ≡ oneOf (at .reads) page [] → Seeing (at .bounds) p (at .n)
+  pub a-pass-sees-its-page : not (at .go) ≡ false → PassingOn at page → (p : List ℕ) → p ≡ cond (at .reads) page [] → Seeing (at .bounds) p (at .n)
   a-pass-sees-its-page h o p k = rw k (o .sees (not-false (at .go) h))
 
 module _ (e : Entry) (t : Bool) (f : t ≡ sameBytes (e .key) zeroKey) where

@@ -1,7 +1,7 @@
 -- The entries behind the used ones: the pass over all entries comes to what the pass over the used ones and the look at the others come to.
 -- Assumes nothing.
 use mathlib.Core.Path.{_≡_, refl, sym, ap, _∙_}
-use mathlib.Core.Bool.{Bool, true, false, not, _&&_, false≢true}
+use mathlib.Core.Bool.{Bool, true, false, not, _&&_, false≢true, cond}
 use mathlib.Core.List.{List, [], _∷_}
 use Prim.Native.Nat.{ℕ, zero, suc, _+_, _-_, _≤_, _<_}
 use native.Mathlib.Omega.{arith}
@@ -10,7 +10,7 @@ use lib.ListN.{length, take, drop}
 use borrow.Author.Tests.{eq-eqb, ne-eqb, lt-ltb, le-ltb, ltb-true, ltb-false, not-true, not-false}
 use Rattle.leaf_model.proofs.Tests.{and-left, and-right}
 use Rattle.leaf_work.specs.declared.Entry.{Entry}
-use Rattle.leaf_work.specs.Tests.{every, oneOf, isZero}
+use Rattle.leaf_work.specs.Tests.{every, isZero}
 use Rattle.leaf_work.specs.Lent.{anInsert}
 use Rattle.leaf_work.specs.Sound.{isBlank}
 use Rattle.leaf_pass.specs.declared.Pass.{Pass}
@@ -38,7 +38,7 @@ module _ (a b : ℕ) where
   unfolding lesserOf
   lesser-bounds = go (ltb a b) refl
     where
-      go : (t : Bool) → ltb a b ≡ t → (oneOf t a b ≤ b) × (oneOf t a b ≤ a) × (oneOf t a b < b → oneOf t a b ≡ a)
+      go : (t : Bool) → ltb a b ≡ t → (cond t a b ≤ b) × (cond t a b ≤ a) × (cond t a b < b → cond t a b ≡ a)
       go true e = let l = ltb-true a b e in (omega (arith, l), omega arith, λ _. refl)
       go false e = let l = ltb-false a b e in (omega arith, l, λ h. absurd (omega (arith, h)))
 
@@ -82,8 +82,8 @@ the-look-is-at-those-behind u (e ∷ es) = go (u .left) (u .all) (the-look-is-at
     both true false c = refl
     both false b c = refl
 
-    go : (k : ℕ) (b : Bool) → unusedOver (record { left = k - 1; all = oneOf (isZero k) (b && isBlank e) b }) es .all ≡ (oneOf (isZero k) (b && isBlank e) b && every isBlank (drop (k - 1) es))
-        → unusedOver (record { left = k - 1; all = oneOf (isZero k) (b && isBlank e) b }) es .all ≡ (b && every isBlank (drop k (e ∷ es)))
+    go : (k : ℕ) (b : Bool) → unusedOver (record { left = k - 1; all = cond (isZero k) (b && isBlank e) b }) es .all ≡ (cond (isZero k) (b && isBlank e) b && every isBlank (drop (k - 1) es))
+        → unusedOver (record { left = k - 1; all = cond (isZero k) (b && isBlank e) b }) es .all ≡ (b && every isBlank (drop k (e ∷ es)))
     go zero b h = h ∙ both b (isBlank e) (every isBlank es)
     go (suc k) b h =
         let one : suc k - 1 ≡ k = omega arith in
@@ -98,7 +98,7 @@ module _ (b : Bounds) (page : List ℕ) where
       rw o (wrong-stays z h es)
 
   abbrev markedPass : Pass → Bool → Pass
-  markedPass z ok = oneOf (not ok) (wrong z) z
+  markedPass z ok = cond (not ok) (wrong z) z
 
   wrong-marked : (z : Pass) → z .right ≡ false → (ok : Bool) → markedPass z ok ≡ z
   wrong-marked z h true = refl

@@ -1,6 +1,6 @@
 -- Nos. 1 to 9 by what a pass came to, row after row. Assumes nothing.
 use mathlib.Core.Path.{_≡_, refl, _∙_}
-use mathlib.Core.Bool.{Bool, true, false, not, _&&_}
+use mathlib.Core.Bool.{Bool, true, false, not, _&&_, cond}
 use mathlib.Core.List.{List, []}
 use Prim.Native.Nat.{ℕ, _+_, _-_, _/_, _≤_, _<_}
 use native.Mathlib.Omega.{arith}
@@ -11,7 +11,7 @@ use Rattle.refusal.specs.Refusal.{accepted, roomLength, unsound, outOfTurn}
 use Rattle.leaf_node.specs.Limits.{bodyLimit, recordLimit}
 use Rattle.leaf_model.proofs.Tests.{and-left, and-right}
 use Rattle.leaf_work.specs.declared.Work.{Work}
-use Rattle.leaf_work.specs.Tests.{every, oneOf, isZero}
+use Rattle.leaf_work.specs.Tests.{every, isZero}
 use Rattle.leaf_work.specs.Lent.{roomRight, mostEntries, mostStoreBytes}
 use Rattle.leaf_work.specs.Verdict.{first}
 use Rattle.leaf_pass.specs.Pass.{Seeing, Small}
@@ -74,7 +74,7 @@ module _ (size : ℕ) (w : Work) (at : Passing) (entries : ℕ) (store page : Li
     unfolding lentAt
     the-room-is-refused h = rw (z, first, ← e, not-true t h)
 
-    module _ (h : not t ≡ false) (p : List ℕ) (k : p ≡ oneOf (at .reads) page []) (s : Bool) (f : s ≡ soundAt size w at entries store p) where
+    module _ (h : not t ≡ false) (p : List ℕ) (k : p ≡ cond (at .reads) page []) (s : Bool) (f : s ≡ soundAt size w at entries store p) where
       pub the-work-is-refused : not s ≡ true → unsound ≡ lentAt size w at entries store page
       unfolding lentAt
       the-work-is-refused i = rw (z, first, ← e, not-false t h, ← k, ← f, not-true s i)
@@ -83,7 +83,7 @@ module _ (size : ℕ) (w : Work) (at : Passing) (entries : ℕ) (store page : Li
       unfolding lentAt
       all-is-accepted i = rw (z, first, ← e, not-false t h, ← k, ← f, not-false s i)
 
-pub the-read-page-is-seen : (at : Passing) (page p : List ℕ) → PassingOn at page → p ≡ oneOf (at .reads) page [] → at .go ≡ true → Seeing (at .bounds) p (at .n)
+pub the-read-page-is-seen : (at : Passing) (page p : List ℕ) → PassingOn at page → p ≡ cond (at .reads) page [] → at .go ≡ true → Seeing (at .bounds) p (at .n)
 the-read-page-is-seen at page p o k g = rw k (o .sees g)
 
 -- ---- Nos. 7 to 9 of a call on a work that isn't open
@@ -111,6 +111,6 @@ module _ (size : ℕ) (w : Work) (at : Passing) (entries : ℕ) (store : List �
 pub none-is-seen : (at : Passing) → PassingOn at [] → at .go ≡ true → Seeing (at .bounds) [] (at .n)
 none-is-seen at o g = go (at .reads) (o .sees g)
   where
-    go : (b : Bool) → Seeing (at .bounds) (oneOf b [] []) (at .n) → Seeing (at .bounds) [] (at .n)
+    go : (b : Bool) → Seeing (at .bounds) (cond b [] []) (at .n) → Seeing (at .bounds) [] (at .n)
     go true s = s
     go false s = s

@@ -1,6 +1,6 @@
 -- Nos. 1 to 8 by a pass over a list are those of document 01's table. Assumes nothing.
 use mathlib.Core.Path.{_≡_, refl, sym, ap, _∙_}
-use mathlib.Core.Bool.{Bool, true, false, not, _&&_}
+use mathlib.Core.Bool.{Bool, true, false, not, _&&_, cond}
 use mathlib.Core.List.{List, [], _∷_}
 use Prim.Native.Nat.{ℕ, _+_, _≤_, _<_}
 use native.Mathlib.Omega.{arith}
@@ -14,7 +14,7 @@ use Rattle.leaf_node.specs.Page.{count}
 use Rattle.leaf_model.proofs.Tests.{clash, and-left, and-right}
 use Rattle.leaf_work.specs.declared.Work.{Work}
 use Rattle.leaf_work.specs.declared.Entry.{Entry}
-use Rattle.leaf_work.specs.Tests.{every, oneOf, isZero}
+use Rattle.leaf_work.specs.Tests.{every, isZero}
 use Rattle.leaf_work.specs.Lent.{mostEntries, mostStoreBytes, roomRight, isOpen, separatorOf, readsBase, regarded}
 use Rattle.leaf_work.specs.Sound.{sound}
 use Rattle.leaf_work.specs.Verdict.{unless, first, lentPageVerdict, lentVerdict}
@@ -77,10 +77,10 @@ true-last true true d e = sym e
 true-last true false d e = refl
 true-last false b d e = refl
 
-module _ (size : ℕ) (q : PageSize size) (w : Work) (list : List Entry) (store page : List ℕ) (reads : Bool) (g : Regardable size (oneOf reads page [])) (n : ℕ) (c : n ≡ count (oneOf reads page []))
+module _ (size : ℕ) (q : PageSize size) (w : Work) (list : List Entry) (store page : List ℕ) (reads : Bool) (g : Regardable size (cond reads page [])) (n : ℕ) (c : n ≡ count (cond reads page []))
     (r : roomRight size (length list) (length store) ≡ true) where
   abbrev p : List ℕ
-  p = oneOf reads page []
+  p = cond reads page []
 
   abbrev start : Passing
   start = beginning size w 0 reads n

@@ -1,7 +1,7 @@
 -- The pass over a list in whatever form: how it begins, one entry more, and Nos. 1 to 8 by what it came to. `proofs/Verdicts.antt` shows that
 -- they are those of document 01's table.
 use mathlib.Core.Path.{_≡_}
-use mathlib.Core.Bool.{Bool, true, false, not, _&&_}
+use mathlib.Core.Bool.{Bool, true, false, not, _&&_, cond}
 use mathlib.Core.List.{List, [], _∷_}
 use Prim.Native.Nat.{ℕ}
 use lib.Dec.{leb}
@@ -10,7 +10,7 @@ use Rattle.refusal.specs.Refusal.{accepted, roomLength, unsound, outOfTurn}
 use Rattle.leaf_node.specs.Page.{count}
 use Rattle.leaf_work.specs.declared.Work.{Work}
 use Rattle.leaf_work.specs.declared.Entry.{Entry}
-use Rattle.leaf_work.specs.Tests.{every, oneOf, isZero}
+use Rattle.leaf_work.specs.Tests.{every, isZero}
 use Rattle.leaf_work.specs.Lent.{mostEntries, mostStoreBytes, roomRight, isOpen, separatorOf, readsBase, regarded}
 use Rattle.leaf_work.specs.Verdict.{unless, first, lentPageVerdict}
 use Rattle.leaf_pass.specs.declared.Pass.{Pass}
@@ -38,25 +38,25 @@ beginning size w number reads n = record {
 -- a bad page isn't counted
 unfoldable pub beginningOf : ℕ → Work → List ℕ → Passing
 beginningOf size w page =
-    oneOf (isZero (lentPageVerdict size w page))
+    cond (isZero (lentPageVerdict size w page))
     (beginning size w accepted (readsBase w) (count (regarded w page)))
     (beginning size w (lentPageVerdict size w page) (readsBase w) 0)
 
 -- "A work that .. waits or is done ignores the lent page": there is none
 unfoldable pub closedBeginning : ℕ → Work → Passing
-closedBeginning size w = beginning size w (oneOf (isOpen w) outOfTurn accepted) false 0
+closedBeginning size w = beginning size w (cond (isOpen w) outOfTurn accepted) false 0
 
 -- ---- one entry more, and all of them
 
 -- the page that the pass reads
 abbrev pub seen : Passing → List ℕ → List ℕ
-seen at page = oneOf (at .reads) page []
+seen at page = cond (at .reads) page []
 
 abbrev pub withPass : Passing → Pass → Passing
 withPass at z = record { number = at .number; go = at .go; reads = at .reads; n = at .n; bounds = at .bounds; pass = z }
 
 unfoldable pub passedOne : List ℕ → Passing → Entry → Passing
-passedOne page at e = withPass at (oneOf (at .go) (passed (at .bounds) (seen at page) (at .pass) e) (at .pass))
+passedOne page at e = withPass at (cond (at .go) (passed (at .bounds) (seen at page) (at .pass) e) (at .pass))
 
 abbrev pub passedOver : List ℕ → Passing → List Entry → Passing
 passedOver page at [] = at

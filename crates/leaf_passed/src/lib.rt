@@ -21,13 +21,12 @@ use refusal::OUT_OF_TURN;
 use refusal::ROOM_LENGTH;
 use refusal::UNSOUND;
 ghost use mathlib.Core.Path.{_≡_};
-ghost use mathlib.Core.Bool.{true};
+ghost use mathlib.Core.Bool.{true, cond};
 ghost use mathlib.Core.List.{List, []};
 ghost use Prim.Native.Nat.{ℕ, _≤_};
 ghost use lib.ListN.{length};
 ghost use Rattle.leaf_node.specs.Limits.{PageSize};
 ghost use Rattle.leaf_node.specs.Page.{count};
-ghost use Rattle.leaf_work.specs.Tests.{oneOf};
 ghost use Rattle.leaf_work.specs.Lent.{roomRight, regarded};
 ghost use Rattle.leaf_work.specs.Pending.{recordsIn};
 ghost use Rattle.leaf_work.specs.Sound.{isBlank};
@@ -114,7 +113,7 @@ pub fn begin_closed(work: Work, size: usize) -> Passing
 
 // The page, or none of its bytes.
 pub fn read_if(reads: bool, page: &[u8]) -> &[u8]
-    ensures { λ r. ⌜ now r ≡ oneOf reads (now (page .entry)) [] ⌝ }
+    ensures { λ r. ⌜ now r ≡ cond reads (now (page .entry)) [] ⌝ }
 {
     if reads {
         return page;

@@ -1,6 +1,6 @@
 -- The twin call and the part call: the place of a pending record lies in its holder, and the part is the bytes there. Assumes nothing.
 use mathlib.Core.Path.{_≡_, refl, sym, ap, _∙_}
-use mathlib.Core.Bool.{Bool, true, false}
+use mathlib.Core.Bool.{Bool, true, false, cond}
 use mathlib.Core.List.{List, [], _∷_}
 use Prim.Native.Nat.{ℕ, zero, suc, _+_, _-_, _≤_, _<_}
 use native.Mathlib.Omega.{arith}
@@ -16,7 +16,6 @@ use Rattle.leaf_node.proofs.Lengths.{all-run}
 use Rattle.leaf_model.proofs.Lists.{all-append}
 use Rattle.leaf_work.specs.declared.Work.{Work}
 use Rattle.leaf_work.specs.declared.Entry.{Entry}
-use Rattle.leaf_work.specs.Tests.{oneOf}
 use Rattle.leaf_work.specs.Lent.{blank, readsBase, regarded}
 use Rattle.leaf_work.specs.Pending.{Holder, Store, Base, Place, heldBy, inBase, chunkPlaces, insertPlace, entryPlaces, placesOf, pendingPlaces}
 use Rattle.leaf_work.specs.Verdict.{lentVerdict}
@@ -94,7 +93,7 @@ module _ (store p page : List ℕ) (shorter : length p ≤ length page) where
 regarded-is-no-longer : (w : Work) (page : List ℕ) → length (regarded w page) ≤ length page
 regarded-is-no-longer w page = go (readsBase w)
   where
-    go : (b : Bool) → length (oneOf b page []) ≤ length page
+    go : (b : Bool) → length (cond b page []) ≤ length page
     go true = omega arith
     go false = omega arith
 

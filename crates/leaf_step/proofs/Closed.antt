@@ -1,6 +1,6 @@
 -- The calls on a work that isn't open, by a pass over its list. Assumes nothing.
 use mathlib.Core.Path.{_≡_, refl, sym, ap, _∙_}
-use mathlib.Core.Bool.{Bool, true, false, _&&_, true≢false}
+use mathlib.Core.Bool.{Bool, true, false, _&&_, true≢false, cond}
 use mathlib.Core.Option.{Option}
 use mathlib.Core.List.{List, []}
 use Prim.Native.Nat.{ℕ, _+_, _≤_}
@@ -15,7 +15,6 @@ use Rattle.leaf_node.proofs.Reading.{good-pages-are-laid}
 use Rattle.leaf_model.proofs.Tests.{and-left, and-right}
 use Rattle.leaf_work.specs.declared.Work.{Work}
 use Rattle.leaf_work.specs.declared.Entry.{Entry}
-use Rattle.leaf_work.specs.Tests.{oneOf}
 use Rattle.leaf_work.specs.Lent.{mostEntries, mostStoreBytes, roomRight}
 use Rattle.leaf_work.specs.Verdict.{baseVerdict, closedVerdict, followsVerdict, nextBaseVerdict, removeVerdict}
 use Rattle.leaf_base.proofs.Bases.{first-refused}
@@ -48,7 +47,7 @@ module _ (w : Work) (at : Passing) (entries : ℕ) (h : ClosedOver w at entries)
   pub a-closed-pass-goes-on-without-a-page : PassingOn at []
   a-closed-pass-goes-on-without-a-page = record { sees = λ g. go (at .reads) reads-nothing (h .on .sees g); small = h .on .small }
     where
-      go : (b : Bool) → b ≡ false → Seeing (at .bounds) (oneOf b (h .page) []) (at .n) → Seeing (at .bounds) (oneOf b [] []) (at .n)
+      go : (b : Bool) → b ≡ false → Seeing (at .bounds) (cond b (h .page) []) (at .n) → Seeing (at .bounds) (cond b [] []) (at .n)
       go false e s = s
       go true e s = absurd (true≢false e)
 

@@ -13,7 +13,7 @@ use Rattle.leaf_model.proofs.Tests.{clash}
 use Rattle.leaf_model.proofs.Lists.{all-append, all-map}
 use Rattle.leaf_work.specs.declared.Work.{Work}
 use Rattle.leaf_work.specs.declared.Entry.{Entry}
-use Rattle.leaf_work.specs.Tests.{oneOf, isZero}
+use Rattle.leaf_work.specs.Tests.{isZero}
 use Rattle.leaf_work.specs.Lent.{blank, regarded, readsBase}
 use Rattle.leaf_work.specs.Flat.{entryOf, rowOf}
 use Rattle.leaf_work.specs.Pending.{Place, chunkPlaces, entryPlaces, recordsIn, placesOf, restPlaces, pendingPlaces}

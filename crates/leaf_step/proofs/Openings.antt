@@ -1,6 +1,6 @@
 -- An opening by the number of its entries. Assumes nothing.
 use mathlib.Core.Path.{_≡_, refl, sym, ap, _∙_}
-use mathlib.Core.Bool.{Bool, true, false, not}
+use mathlib.Core.Bool.{Bool, true, false, not, cond}
 use mathlib.Core.List.{List, [], _++_, append-nil}
 use Prim.Native.Nat.{ℕ, _-_}
 use native.Mathlib.Omega.{arith}
@@ -12,7 +12,6 @@ use Rattle.leaf_model.specs.Basics.{cleared}
 use Rattle.leaf_model.specs.Work.{zeroKey}
 use Rattle.leaf_work.specs.declared.Work.{Work}
 use Rattle.leaf_work.specs.declared.Entry.{Entry}
-use Rattle.leaf_work.specs.Tests.{oneOf}
 use Rattle.leaf_work.specs.Lent.{blank, roomRight}
 use Rattle.leaf_work.specs.Verdict.{Opening, openVerdict}
 use Rattle.leaf_work.specs.Outcome.{Opened, openOf, replyNumber, freshWork}
@@ -55,7 +54,7 @@ module _ (based : Bool) (page sep : List ℕ) (cut : Bool) (cutoff : List ℕ) (
   a-refused-opening-changes-nothing h =
       rw (refused-outcome 4096 (openingOf based page sep cut cutoff) w list store v e h, ← l) (refl, refl, cleared-from-the-end list, refl)
 
-  pub an-accepted-opening-clears-all : v ≡ 0 → (r : Work) (store′ : List ℕ) → r ≡ freshWork based (oneOf based sep zeroKey) cut cutoff → store′ ≡ zeros (length store)
+  pub an-accepted-opening-clears-all : v ≡ 0 → (r : Work) (store′ : List ℕ) → r ≡ freshWork based (cond based sep zeroKey) cut cutoff → store′ ≡ zeros (length store)
       → (let o : Opened = openOf 4096 (openingOf based page sep cut cutoff) w list store in
       (0 ≡ replyNumber (o .reply)) × (r ≡ o .work) × (cleared blank list 0 ≡ o .list) × (store′ ≡ o .store))
   unfolding cleared

@@ -1,6 +1,6 @@
 -- How many entries are split and given back, and what a digest answers, case by case. Assumes nothing.
 use mathlib.Core.Path.{_≡_, refl, ap, _∙_}
-use mathlib.Core.Bool.{Bool, true, false}
+use mathlib.Core.Bool.{Bool, true, false, cond}
 use mathlib.Core.Option.{some}
 use mathlib.Core.List.{List, [], _∷_}
 use Prim.Native.Nat.{ℕ, _+_, _≤_, _<_}
@@ -17,7 +17,7 @@ use Rattle.leaf_model.specs.Basics.{nonempty}
 use Rattle.leaf_model.specs.Work.{zeroKey, plan}
 use Rattle.leaf_model.proofs.Plan.{kept-records-wait-for-a-merge}
 use Rattle.leaf_work.specs.declared.Work.{Work}
-use Rattle.leaf_work.specs.Tests.{oneOf, isSet}
+use Rattle.leaf_work.specs.Tests.{isSet}
 use Rattle.leaf_work.specs.Lent.{mostEntries, cutoffOf}
 use Rattle.leaf_work.proofs.Tests.{key-is-there}
 use Rattle.leaf_passed.specs.Behind.{lesserOf}
@@ -36,7 +36,7 @@ module _ (a b : ℕ) where
   unfolding lesserOf
   within-lesser k h l = go (ltb a b)
     where
-      go : (t : Bool) → k ≤ oneOf t a b
+      go : (t : Bool) → k ≤ cond t a b
       go true = h
       go false = l
 
@@ -55,7 +55,7 @@ module _ (w : Work) where
   unfolding keptRoom
   kept-room-bounds = go (isSet (w .cut))
     where
-      go : (t : Bool) → (1 ≤ oneOf t 60 1) × (oneOf t 60 1 ≤ 60)
+      go : (t : Bool) → (1 ≤ cond t 60 1) × (cond t 60 1 ≤ 60)
       go true = (omega arith, omega arith)
       go false = (omega arith, omega arith)
 

@@ -1,6 +1,6 @@
 -- The number of a digest, by the pass over its rows and keys and the look at the other entries. Assumes nothing.
 use mathlib.Core.Path.{_≡_, refl, sym, ap, _∙_}
-use mathlib.Core.Bool.{Bool, true, false, not}
+use mathlib.Core.Bool.{Bool, true, false, not, cond}
 use mathlib.Core.List.{List, [], _∷_, _++_, map}
 use Prim.Native.Nat.{ℕ, _+_, _-_, _≤_, _<_}
 use native.Mathlib.Omega.{arith}
@@ -10,7 +10,6 @@ use lib.Seq.{take-at, length-take-le}
 use borrow.Author.Tests.{not-true, not-false}
 use Rattle.leaf_work.specs.declared.Work.{Work}
 use Rattle.leaf_work.specs.declared.Entry.{Entry}
-use Rattle.leaf_work.specs.Tests.{oneOf}
 use Rattle.leaf_work.specs.Flat.{entriesOf, rowOf}
 use Rattle.leaf_work.specs.Verdict.{lentVerdict}
 use Rattle.leaf_pass.specs.declared.Pass.{Pass}
@@ -36,7 +35,7 @@ module _ (page : List ℕ) (at : Passing) (o : PassingOn at page) where
   pub a-stopped-pass-stays : not (at .go) ≡ true → (es : List Entry) → (at ≡ passedOver page at es) × (PassingOn at page)
   a-stopped-pass-stays h es = (sym (stopped page at (not-true (at .go) h) es), o)
 
-  module _ (h : not (at .go) ≡ false) (p : List ℕ) (k : p ≡ oneOf (at .reads) page []) where
+  module _ (h : not (at .go) ≡ false) (p : List ℕ) (k : p ≡ cond (at .reads) page []) where
     pub a-pass-sees-what-it-reads : Seeing (at .bounds) p (at .n)
     a-pass-sees-what-it-reads = rw k (o .sees (not-false (at .go) h))
 

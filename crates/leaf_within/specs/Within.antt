@@ -1,12 +1,12 @@
 -- A list whose used entries were split into rows and keys, and what a digest gives back of them.
 use mathlib.Core.Path.{_≡_}
-use mathlib.Core.Bool.{true, false}
+use mathlib.Core.Bool.{true, false, cond}
 use mathlib.Core.List.{List, map}
 use Prim.Native.Nat.{ℕ, _+_, _≤_}
 use lib.ListN.{length, take}
 use Rattle.leaf_work.specs.declared.Work.{Work}
 use Rattle.leaf_work.specs.declared.Entry.{Entry}
-use Rattle.leaf_work.specs.Tests.{oneOf, isSet}
+use Rattle.leaf_work.specs.Tests.{isSet}
 use Rattle.leaf_work.specs.Lent.{mostEntries, regarded}
 use Rattle.leaf_work.specs.Flat.{rowOf}
 use Rattle.leaf_work.specs.Pending.{pendingOf}
@@ -30,7 +30,7 @@ splitCount w entries = lesserOf (w .used) (atMost entries)
 
 -- how many rows are enough for what a digest keeps: without a cutoff nothing, but a list has a row; else records with a body under 2,047, 34 bytes each and more
 unfoldable pub keptRoom : Work → ℕ
-keptRoom w = oneOf (isSet (w .cut)) 60 1
+keptRoom w = cond (isSet (w .cut)) 60 1
 
 -- rows for the entries that are said to be used and beside them what is kept, and no more than the list has entries
 unfoldable pub roomNeeded : Work → ℕ → ℕ

@@ -1,7 +1,7 @@
 -- What is lent earns none of Nos. 1 to 8 exactly where the work is laid out, kept and has the model's invariant. A sound work has it with no leaf
 -- given out and a tally of what is pending, so what holds of a work that a sequence reached holds of any sound one. Assumes nothing.
 use mathlib.Core.Path.{_≡_, refl, sym, ap, _∙_}
-use mathlib.Core.Bool.{Bool, true, false, not, _&&_, _||_, false≢true}
+use mathlib.Core.Bool.{Bool, true, false, not, _&&_, _||_, false≢true, cond}
 use mathlib.Core.Option.{some}
 use mathlib.Core.List.{List, [], _∷_, _++_}
 use Prim.Native.Nat.{ℕ, _-_, _<_}
@@ -27,7 +27,7 @@ use Rattle.leaf_model.proofs.Invariant.{Invariant, OpenFacts, WaitFacts, DoneFa
 use Rattle.leaf_model.proofs.Bases.{rising-of-test}
 use Rattle.leaf_work.specs.declared.Work.{Work}
 use Rattle.leaf_work.specs.declared.Entry.{Entry}
-use Rattle.leaf_work.specs.Tests.{every, sameBytes, implies, isSet, keyIf, oneOf}
+use Rattle.leaf_work.specs.Tests.{every, sameBytes, implies, isSet, keyIf}
 use Rattle.leaf_work.specs.Lent.{turnNumber, isOpen, isWaiting, isDone, cutoffOf, overrideOf, lastOf, separatorOf, readsBase, regarded, anInsert}
 use Rattle.leaf_work.specs.Pending.{listedOf, restOf, pendingOf}
 use Rattle.leaf_work.specs.Sound.{isFlag, letsIn, pastAll, sound}
@@ -52,7 +52,7 @@ module _ (size : ℕ) (w : Work) (list : List Entry) (store page : List ℕ) (g 
   pub canonical-work-is-sound : sound size w list store (regarded w page) ≡ true
   canonical-work-is-sound = the-work-is-sound size w list store (regarded w page) page (h .ops) (h .laid) (h .kept) (ignored w page) g t (h .invariant)
 
-  page-passes : (b : Bool) → (b ≡ true → keysVerdict size page (w .latest) (cutoffOf w) ≡ 0) → oneOf b (keysVerdict size page (w .latest) (cutoffOf w)) 0 ≡ 0
+  page-passes : (b : Bool) → (b ≡ true → keysVerdict size page (w .latest) (cutoffOf w) ≡ 0) → cond b (keysVerdict size page (w .latest) (cutoffOf w)) 0 ≡ 0
   page-passes true f = f refl
   page-passes false f = refl
 

@@ -1,6 +1,6 @@
 -- The pending records of a work that earns none of Nos. 1 to 8: their keys have 32 bytes, their values are such as a page takes. Assumes nothing.
 use mathlib.Core.Path.{_≡_, refl}
-use mathlib.Core.Bool.{Bool, true, false}
+use mathlib.Core.Bool.{Bool, true, false, cond}
 use mathlib.Core.List.{List, [], _++_}
 use Prim.Native.Nat.{ℕ, _-_, _≤_}
 use native.Mathlib.Omega.{arith}
@@ -13,7 +13,6 @@ use Rattle.leaf_node.proofs.RoundTrips.{records-of-a-good-page-are-proper}
 use Rattle.leaf_model.proofs.Lists.{all-append, all-map}
 use Rattle.leaf_work.specs.declared.Work.{Work}
 use Rattle.leaf_work.specs.declared.Entry.{Entry}
-use Rattle.leaf_work.specs.Tests.{oneOf}
 use Rattle.leaf_work.specs.Lent.{cutoffOf, readsBase, regarded}
 use Rattle.leaf_work.specs.Pending.{listedOf, restOf}
 use Rattle.leaf_work.specs.Verdict.{lentVerdict}
@@ -43,8 +42,8 @@ module _ (size : ℕ) (q : PageSize size) (w : Work) (list : List Entry) (store 
   unfolding recordsBetween run
   base-proper from to o h = go (readsBase w) refl h
     where
-      go : (b : Bool) → readsBase w ≡ b → to ≤ count (oneOf b page [])
-          → All Keyed (recordsBetween (oneOf b page []) from to) × All (Fitting size) (recordsBetween (oneOf b page []) from to)
+      go : (b : Bool) → readsBase w ≡ b → to ≤ count (cond b page [])
+          → All Keyed (recordsBetween (cond b page []) from to) × All (Fitting size) (recordsBetween (cond b page []) from to)
       go true e h =
           let a = records-of-a-good-page-are-proper size page q (lent-page-is-good size page (w .latest) (cutoffOf w) (base-right size w list store page z e)) from to o h in
           (a .fits .keys, a .fitting)

@@ -1,7 +1,7 @@
 -- What is lent and earns none of Nos. 1 to 8: the rows that it passed, the operations that it stands for, and what the steps below the calls
 -- require. Assumes nothing.
 use mathlib.Core.Path.{_≡_, refl, sym, ap, _∙_}
-use mathlib.Core.Bool.{Bool, true, false, _&&_}
+use mathlib.Core.Bool.{Bool, true, false, _&&_, cond}
 use mathlib.Core.List.{List, [], _∷_, _++_}
 use Prim.Native.Nat.{ℕ, zero, suc, _+_, _-_, _≤_, _<_}
 use native.Mathlib.Omega.{arith}
@@ -21,7 +21,7 @@ use Rattle.leaf_model.proofs.Tests.{and-left, and-right}
 use Rattle.leaf_model.proofs.Lists.{all-map}
 use Rattle.leaf_work.specs.declared.Work.{Work}
 use Rattle.leaf_work.specs.declared.Entry.{Entry}
-use Rattle.leaf_work.specs.Tests.{every, isZero, isSet, bit, oneOf}
+use Rattle.leaf_work.specs.Tests.{every, isZero, isSet, bit}
 use Rattle.leaf_work.specs.Lent.{blank, mostEntries, mostStoreBytes, roomRight, cutoffOf, readsBase, regarded}
 use Rattle.leaf_work.specs.Pending.{listedOf, pendingOf, recordsHeld, placesOf}
 use Rattle.leaf_work.specs.Sound.{isBlank, isOperation, placed, someInsert, sound}
@@ -39,14 +39,14 @@ module _ (size : ℕ) (w : Work) (list : List Entry) (store page : List ℕ) (z 
   p = regarded w page
 
   pub record Rows : Type 0 where
-    pub base : oneOf (readsBase w) (keysVerdict size page (w .latest) (cutoffOf w)) 0 ≡ 0
+    pub base : cond (readsBase w) (keysVerdict size page (w .latest) (cutoffOf w)) 0 ≡ 0
     pub right-room : roomRight size (length list) (length store) ≡ true
     pub is-sound : sound size w list store p ≡ true
 
   pub rows : Rows
   unfolding lentVerdict
   rows =
-      let a₀ = first-passed (oneOf (readsBase w) (keysVerdict size page (w .latest) (cutoffOf w)) 0) _ z in
+      let a₀ = first-passed (cond (readsBase w) (keysVerdict size page (w .latest) (cutoffOf w)) 0) _ z in
       let a₁ = passed 6 (roomRight size (length list) (length store)) _ (a₀ .1) in
       let a₂ = passed 7 (sound size w list store p) 0 (a₁ .1) in
       record { base = a₀ .0; right-room = a₁ .0; is-sound = a₂ .0 }
@@ -180,14 +180,14 @@ module _ (size : ℕ) (w : Work) (list : List Entry) (store page : List ℕ) (z 
   base-good : 0 < count p → Good size p
   base-good h = go (readsBase w) refl h
     where
-      go : (b : Bool) → readsBase w ≡ b → 0 < count (oneOf b page []) → Good size (oneOf b page [])
+      go : (b : Bool) → readsBase w ≡ b → 0 < count (cond b page []) → Good size (cond b page [])
       go true e h = lent-page-is-good size page (w .latest) (cutoffOf w) (base-right e)
       go false e h = absurd (omega (arith, an-ignored-page-has-no-records))
 
   page-short : PageSize size → length p ≤ 32767
   page-short q = go (readsBase w) refl
     where
-      go : (b : Bool) → readsBase w ≡ b → length (oneOf b page []) ≤ 32767
+      go : (b : Bool) → readsBase w ≡ b → length (cond b page []) ≤ 32767
       go true e = omega (arith, lent-page-is-good size page (w .latest) (cutoffOf w) (base-right e) .sized, q .most)
       go false e = omega arith
 

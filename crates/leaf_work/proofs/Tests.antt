@@ -1,6 +1,6 @@
 -- Rows of the table that were passed, tests over lists, flags, and keys that are there or not. Assumes nothing.
 use mathlib.Core.Path.{_≡_, refl, sym, ap}
-use mathlib.Core.Bool.{Bool, true, false, not, _&&_, true≢false, false≢true}
+use mathlib.Core.Bool.{Bool, true, false, not, _&&_, true≢false, false≢true, cond}
 use mathlib.Core.Option.{Option, none, some}
 use mathlib.Core.List.{List, [], _∷_, _++_, map}
 use Prim.Native.Nat.{ℕ, zero, suc, _≤_}
@@ -11,7 +11,7 @@ use borrow.Author.Tests.{eqb-true, eqb-false, eq-eqb}
 use Rattle.leaf_node.specs.Fits.{All, nil, cons}
 use Rattle.leaf_model.specs.Work.{zeroKey}
 use Rattle.leaf_model.proofs.Tests.{clash}
-use Rattle.leaf_work.specs.Tests.{every, sameBytes, implies, isSet, bit, keyIf, oneOf}
+use Rattle.leaf_work.specs.Tests.{every, sameBytes, implies, isSet, bit, keyIf}
 use Rattle.leaf_work.specs.Verdict.{unless, first}
 
 pub and-both : {a b : Bool} → a ≡ true → b ≡ true → (a && b) ≡ true
@@ -121,14 +121,14 @@ no-key true k h = absurd (h refl)
 no-key false k h = refl
 
 -- a key that is stored with its flag is the same key
-pub kept-key : (b : Bool) (k : List ℕ) → keyIf (isSet (bit b)) (oneOf b k zeroKey) ≡ keyIf b k
+pub kept-key : (b : Bool) (k : List ℕ) → keyIf (isSet (bit b)) (cond b k zeroKey) ≡ keyIf b k
 kept-key true k = refl
 kept-key false k = refl
 
-pub kept-key-long : (b : Bool) (k : List ℕ) → length k ≡ 32 → length (oneOf b k zeroKey) ≡ 32
+pub kept-key-long : (b : Bool) (k : List ℕ) → length k ≡ 32 → length (cond b k zeroKey) ≡ 32
 kept-key-long true k h = h
 kept-key-long false k h = refl
 
-pub kept-key-absent : (b : Bool) (k : List ℕ) → isSet (bit b) ≡ false → oneOf b k zeroKey ≡ zeroKey
+pub kept-key-absent : (b : Bool) (k : List ℕ) → isSet (bit b) ≡ false → cond b k zeroKey ≡ zeroKey
 kept-key-absent true k e = absurd (true≢false e)
 kept-key-absent false k e = refl

@@ -1,5 +1,5 @@
 -- Document 01, "Digest, step by step": the reply, and every lent byte after the call. A refused digest leaves all as it was, and its reply is its number.
-use mathlib.Core.Bool.{true, false}
+use mathlib.Core.Bool.{true, false, cond}
 use mathlib.Core.Option.{Option}
 use mathlib.Core.List.{List, [], _∷_, _++_, map}
 use Prim.Native.Nat.{ℕ, _+_, _-_}
@@ -15,7 +15,7 @@ use Rattle.leaf_model.specs.Cut.{Cut}
 use Rattle.leaf_model.specs.Work.{Leaf, zeroKey, plan, leavesBy, separatorAfter, floorAfter, turnAfter}
 use Rattle.leaf_work.specs.declared.Work.{Work}
 use Rattle.leaf_work.specs.declared.Entry.{Entry}
-use Rattle.leaf_work.specs.Tests.{oneOf, bit}
+use Rattle.leaf_work.specs.Tests.{bit}
 use Rattle.leaf_work.specs.Lent.{blank, insertAt, turnNumber, cutoffOf, separatorOf, regarded}
 use Rattle.leaf_work.specs.Pending.{pendingOf}
 use Rattle.leaf_work.specs.Verdict.{lentVerdict, digestVerdict}
@@ -75,7 +75,7 @@ digestWork w p = record {
   cut = w .cut;
   cutoff = w .cutoff;
   over = bit (nonempty (p .left));
-  overriding = oneOf (nonempty (p .left)) (separatorAfter (separatorOf w) (p .leaves) (p .left)) zeroKey;
+  overriding = cond (nonempty (p .left)) (separatorAfter (separatorOf w) (p .leaves) (p .left)) zeroKey;
   floor = floorAfter (w .floor) (cutoffOf w) (p .left);
   taken = w .taken;
   last = w .last;

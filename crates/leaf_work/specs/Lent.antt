@@ -1,5 +1,5 @@
 -- What a call is lent: the work record, the list of entries, the store, a page. Document 01, "A work and its turns", "Room and soundness".
-use mathlib.Core.Bool.{Bool, _&&_}
+use mathlib.Core.Bool.{Bool, _&&_, cond}
 use mathlib.Core.Option.{Option}
 use mathlib.Core.List.{List, []}
 use Prim.Native.Nat.{ℕ, _+_}
@@ -8,7 +8,7 @@ use Rattle.leaf_node.specs.Limits.{recordLimit}
 use Rattle.leaf_model.specs.Work.{Turn, Open, Waiting, Done, zeroKey, orElse}
 use Rattle.leaf_work.specs.declared.Work.{Work}
 use Rattle.leaf_work.specs.declared.Entry.{Entry}
-use Rattle.leaf_work.specs.Tests.{oneOf, isSet, keyIf}
+use Rattle.leaf_work.specs.Tests.{isSet, keyIf}
 
 -- ---- entries: "an insert with its place in the store, or a chunk of the base"; "unused entries, entry fields and bytes are zero"
 
@@ -76,4 +76,4 @@ readsBase w = isOpen w && isSet (w .based)
 
 -- the lent page as the work regards it: none of its bytes where it is ignored
 abbrev pub regarded : Work → List ℕ → List ℕ
-regarded w page = oneOf (readsBase w) page []
+regarded w page = cond (readsBase w) page []

@@ -1,5 +1,5 @@
 -- Document 01, "A work and its turns" and "Room and soundness": the calls but digest, the reply, and every lent byte after the call. A refused call leaves all as it was, and its reply is its number.
-use mathlib.Core.Bool.{Bool, true, false}
+use mathlib.Core.Bool.{Bool, true, false, cond}
 use mathlib.Core.Option.{Option}
 use mathlib.Core.List.{List, [], _∷_, _++_}
 use Prim.Native.Nat.{ℕ, zero, suc, _+_, _-_}
@@ -11,7 +11,7 @@ use Rattle.leaf_node.specs.Page.{start, lengthAt}
 use Rattle.leaf_model.specs.Work.{Open, Change, zeroKey, belowCutoff}
 use Rattle.leaf_work.specs.declared.Work.{Work}
 use Rattle.leaf_work.specs.declared.Entry.{Entry}
-use Rattle.leaf_work.specs.Tests.{oneOf, bit, keyIf}
+use Rattle.leaf_work.specs.Tests.{bit, keyIf}
 use Rattle.leaf_work.specs.Lent.{blank, turnNumber, cutoffOf, regarded}
 use Rattle.leaf_work.specs.Pending.{Place, partAt, pendingPlaces}
 use Rattle.leaf_work.specs.TakingUp.{valueOf, reports, stop, drops, lowAfter, newEntries, countAfter, bytesAfter}
@@ -45,7 +45,7 @@ freshWork based separator cut cutoff = record {
   bytes = 0;
   latest = separator;
   cut = bit cut;
-  cutoff = oneOf cut cutoff zeroKey;
+  cutoff = cond cut cutoff zeroKey;
   over = 0;
   overriding = zeroKey;
   floor = separator;
@@ -157,7 +157,7 @@ nextBaseWork w separator cut cutoff = record {
   bytes = w .bytes;
   latest = separator;
   cut = bit cut;
-  cutoff = oneOf cut cutoff zeroKey;
+  cutoff = cond cut cutoff zeroKey;
   over = w .over;
   overriding = w .overriding;
   floor = separator;

@@ -57,7 +57,7 @@ recordsBy true from to = 1
 recordsBy false from to = to - from
 
 abbrev pub recordsIn : Entry → ℕ
-recordsIn e = recordsBy (eqb (e .kind) 1) (e .from) (e .to)
+recordsIn e = recordsBy (anInsert e) (e .from) (e .to)
 
 abbrev pub placesOf : List ℕ → List Entry → List Place
 placesOf page [] = []

@@ -21,10 +21,6 @@ abbrev pub implies : Bool → Bool → Bool
 implies true b = b
 implies false b = true
 
-abbrev pub oneOf : {A : Type 0} → Bool → A → A → A
-oneOf true a b = a
-oneOf false a b = b
-
 abbrev pub isZero : ℕ → Bool
 isZero n = eqb n 0
 

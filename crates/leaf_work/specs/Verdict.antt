@@ -1,5 +1,5 @@
 -- Document 01, "Refusals by number": the number that each call answers, one row of the table each, the lowest first; 0 where it is accepted.
-use mathlib.Core.Bool.{Bool, true, false, not, _&&_}
+use mathlib.Core.Bool.{Bool, true, false, not, _&&_, cond}
 use mathlib.Core.Option.{Option}
 use mathlib.Core.List.{List, []}
 use Prim.Native.Nat.{ℕ, _+_, _*_}
@@ -14,7 +14,7 @@ use Rattle.leaf_node.specs.Good.{pageVerdict}
 use Rattle.leaf_model.specs.Work.{Change, belowCutoff, changeFits}
 use Rattle.leaf_work.specs.declared.Work.{Work}
 use Rattle.leaf_work.specs.declared.Entry.{Entry}
-use Rattle.leaf_work.specs.Tests.{oneOf, isSet, keyIf}
+use Rattle.leaf_work.specs.Tests.{isSet, keyIf}
 use Rattle.leaf_work.specs.Lent.{roomRight, isOpen, isWaiting, cutoffOf, readsBase, regarded}
 use Rattle.leaf_work.specs.Sound.{keysWithin, sound, letsIn}
 use Rattle.leaf_work.specs.TakingUp.{countAfter, bytesAfter, restAfter}
@@ -41,7 +41,7 @@ keysVerdict size page separator cutoff = first (pageVerdict size page) (unless b
 
 -- Nos. 1 to 6 of a lent page, which is tested only where the work reads it
 abbrev pub lentPageVerdict : ℕ → Work → List ℕ → ℕ
-lentPageVerdict size w page = oneOf (readsBase w) (keysVerdict size page (w .latest) (cutoffOf w)) accepted
+lentPageVerdict size w page = cond (readsBase w) (keysVerdict size page (w .latest) (cutoffOf w)) accepted
 
 -- Nos. 1 to 8 of a call that is lent work, list, store and page
 unfoldable pub lentVerdict : ℕ → Work → List Entry → List ℕ → List ℕ → ℕ

@@ -1,13 +1,12 @@
 -- Bytes past a record's end are zero; how a count and a place go on. Assumes nothing.
 use mathlib.Core.Path.{_≡_, refl, sym}
-use mathlib.Core.Bool.{Bool, true, false, not}
+use mathlib.Core.Bool.{Bool, true, false, not, cond}
 use mathlib.Core.List.{List}
 use Prim.Native.Nat.{ℕ, _+_, _*_, _<_, _≤_}
 use lib.Dec.{eqb, ltb}
 use lib.ListN.{length, getD, List·getD-eq-default}
 use borrow.Author.Tests.{eq-eqb, ne-eqb, lt-ltb, le-ltb}
 use borrow.Author.Needs.{needs}
-use Rattle.leaf_work.specs.Tests.{oneOf}
 use Rattle.replay.specs.Counts.{oneMore, countIf}
 
 pub byte-past-the-end : (s : List ℕ) (at : ℕ) → length s ≤ at → 0 ≡ getD s at 0
@@ -46,8 +45,8 @@ no-bytes-left left x e = rw (eq-eqb left 0 e)
 -- a place that goes on by n bytes
 
 module _ (at n : ℕ) where
-  pub the-place-goes-on : at < 65536 → at + n ≡ oneOf (ltb at 65536) (at + n) at
+  pub the-place-goes-on : at < 65536 → at + n ≡ cond (ltb at 65536) (at + n) at
   the-place-goes-on h = rw (lt-ltb at 65536 h)
 
-  pub the-place-stays : 65536 ≤ at → at ≡ oneOf (ltb at 65536) (at + n) at
+  pub the-place-stays : 65536 ≤ at → at ≡ cond (ltb at 65536) (at + n) at
   the-place-stays h = rw (le-ltb at 65536 h)

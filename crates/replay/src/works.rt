@@ -13,11 +13,10 @@ use leaf_take::LeafReport;
 use leaf_within::LeafGave;
 use leaf_work::Work;
 ghost use mathlib.Core.Path.{_≡_};
-ghost use mathlib.Core.Bool.{false};
+ghost use mathlib.Core.Bool.{false, cond};
 ghost use Prim.Native.Nat.{_+_, _≤_, _<_};
 ghost use lib.ListN.{length};
 ghost use lib.Dec.{ltb};
-ghost use Rattle.leaf_work.specs.Tests.{oneOf};
 ghost use Rattle.replay.specs.Answers.{pageLent, sameReport, sameDigest, onlyGiven, sameLeaf};
 ghost use Rattle.replay.specs.Counts.{Counted};
 
@@ -303,7 +302,7 @@ fn remove_cutoff(v: &[u8], run: Run, rows: &[[usize; 5]], keys: &[[u8; 32]], sto
 // The place behind n bytes. One that is behind every buffer stays, so that no sum is too great.
 fn behind(at: usize, n: usize) -> usize
     requires { ⌜ n < 65536 ⌝ }
-    ensures { λ r. ⌜ r ≡ oneOf (ltb at 65536) (at + n) at ⌝ }
+    ensures { λ r. ⌜ r ≡ cond (ltb at 65536) (at + n) at ⌝ }
 {
     if at < 65536 { at + n } else { at }
 }
