@@ -5,6 +5,8 @@
 
 SECONDS_OF_RANDOM ?= 10
 SEED ?= 1
+# how many crates and edits rt has under way: more than there are processors, since it waits for all of them before it starts more
+export RT_JOBS ?= 4
 
 # a step: its name and its command; says how long it took
 step = @start=$$(date +%s) && echo "== $(1)" && $(2) && echo "== $(1): $$(($$(date +%s) - start)) s"
@@ -30,8 +32,9 @@ layout:
 claims:
 	$(call step,names and paths in docs/CLAIMS.md,tools/check-claims)
 
+# `rt staticlib` alone would prove what the library stands on one crate after the other
 library:
-	$(call step,static library,tools/quietly build/library.log rt staticlib leaf_updater)
+	$(call step,static library,tools/quietly build/library.log sh -c 'rt check $$(sed -n "s/^leaf_updater: //p" crates.txt) && rt staticlib leaf_updater')
 
 header:
 	$(call step,header and Rust declarations beside the source,tools/check-layout)
