@@ -16,7 +16,7 @@ use Rattle.leaf_work.specs.TakingUp.{stop, drops}
 use Rattle.leaf_work.specs.Verdict.{baseVerdict, keysVerdict, lentVerdict, openVerdict, ingestVerdict, digestVerdict}
 use Rattle.leaf_work.specs.Outcome.{openOf, ingestOn, twinOn}
 use Rattle.leaf_work.specs.Digest.{digestOn}
-use Rattle.leaf_trials.specs.Trials.{WithoutBase, WithBase, Trials, OtherTrials}
+use Rattle.leaf_trials.specs.Trials.{WithoutBase, UnderCutoff, BeforeBase, Trials, OtherTrials}
 
 starred-without-base : WithoutBase
 unfolding num bytesOf ltKey eqKey shared sharedBits leading separateOf bodyLimit recordLimit valueLimit mergeBelow bulkAbove bulkTarget values total word count keyAt numberAt flagAt offsetAt start lengthAt valueAt recordAt run recordsBetween records valuesSize allBelow offsetStep offsetInside offsetsRight valueFits valuesFit keyStep keysRise pageVerdict placeFrom le16 tagged pointers build targetOf cut cutAll plan held inBase chunkPlaces entryPlaces sound stop drops baseVerdict keysVerdict lentVerdict openVerdict ingestVerdict digestVerdict openOf ingestOn digestOn
@@ -43,19 +43,24 @@ starred-without-base = record {
   all-7404 = refl;
 }
 
-starred-with-base : WithBase
+starred-under-cutoff : UnderCutoff
 unfolding num bytesOf ltKey eqKey shared sharedBits leading separateOf bodyLimit recordLimit valueLimit mergeBelow bulkAbove bulkTarget values total word count keyAt numberAt flagAt offsetAt start lengthAt valueAt recordAt run recordsBetween records valuesSize allBelow offsetStep offsetInside offsetsRight valueFits valuesFit keyStep keysRise pageVerdict placeFrom le16 tagged pointers build targetOf cut cutAll plan held inBase chunkPlaces entryPlaces sound stop drops baseVerdict keysVerdict lentVerdict openVerdict ingestVerdict digestVerdict openOf ingestOn digestOn
-starred-with-base = record {
+starred-under-cutoff = record {
   leaf-of-2047 = refl;
   merge-of-2046 = refl;
-  two-before-a-base = refl;
-  body-4092 = refl;
   all-2047 = refl;
   all-2046 = refl;
 }
 
+starred-before-base : BeforeBase
+unfolding num bytesOf ltKey eqKey shared sharedBits leading separateOf bodyLimit recordLimit valueLimit mergeBelow bulkAbove bulkTarget values total word count keyAt numberAt flagAt offsetAt start lengthAt valueAt recordAt run recordsBetween records valuesSize allBelow offsetStep offsetInside offsetsRight valueFits valuesFit keyStep keysRise pageVerdict placeFrom le16 tagged pointers build targetOf cut cutAll plan held inBase chunkPlaces entryPlaces sound stop drops baseVerdict keysVerdict lentVerdict openVerdict ingestVerdict digestVerdict openOf ingestOn digestOn
+starred-before-base = record {
+  two-before-a-base = refl;
+  body-4092 = refl;
+}
+
 pub the-starred-trials-hold : Trials
-the-starred-trials-hold = record { without-base = starred-without-base; with-base = starred-with-base }
+the-starred-trials-hold = record { without-base = starred-without-base; under-cutoff = starred-under-cutoff; before-base = starred-before-base }
 
 pub the-other-trials-hold : OtherTrials
 unfolding num bytesOf ltKey eqKey shared sharedBits leading separateOf bodyLimit recordLimit valueLimit mergeBelow bulkAbove bulkTarget values total word count keyAt numberAt flagAt offsetAt start lengthAt valueAt recordAt run recordsBetween records valuesSize allBelow offsetStep offsetInside offsetsRight valueFits valuesFit keyStep keysRise pageVerdict placeFrom le16 tagged pointers build targetOf cut cutAll plan held inBase chunkPlaces entryPlaces sound stop drops baseVerdict keysVerdict lentVerdict openVerdict ingestVerdict digestVerdict openOf ingestOn digestOn twinOn

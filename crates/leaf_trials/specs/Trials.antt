@@ -139,26 +139,30 @@ pub record WithoutBase : Type 0 where
   pub all-6830 : body (recordsFrom 1 (1332 ∷ 1332 ∷ 1332 ∷ 1332 ∷ 1332 ∷ [])) ≡ 6830
   pub all-7404 : body (recordsFrom 1 (1200 ∷ 1200 ∷ 1200 ∷ 1200 ∷ 1200 ∷ 1200 ∷ [])) ≡ 7404
 
--- those with a base
-pub record WithBase : Type 0 where
+-- those with an empty base under a cutoff
+pub record UnderCutoff : Type 0 where
   -- "Empty base with cutoff; values 989 and 990 (2,047): a leaf."
   pub leaf-of-2047 : puts 1 emptyBaseWithCutoff (recordsFrom 1 (989 ∷ 990 ∷ []))
       ≡ record { asked = 1; reply = Finished 1; area = build size (recordsFrom 1 (989 ∷ 990 ∷ [])); tickets = between zeroKey (keyOf 255) }
   -- "989 twice (2,046): merge request."
   pub merge-of-2046 : puts 1 emptyBaseWithCutoff (recordsFrom 1 (989 ∷ 989 ∷ []))
       ≡ record { asked = 1; reply = Merge 0 (keyOf 255); area = replicate size 9; tickets = replicate 65 9 }
-  -- "Two inserts of 1,332 before a base of three 1,330: leaves 2,732 and 4,092."
-  pub two-before-a-base : puts 4 (base (recordsFrom 10 (1330 ∷ 1330 ∷ 1330 ∷ []))) (recordsFrom 1 (1332 ∷ 1332 ∷ []))
-      ≡ twoLeaves 4 (recordsFrom 1 (1332 ∷ 1332 ∷ [])) (keyOf 8) (recordsFrom 10 (1330 ∷ 1330 ∷ 1330 ∷ []))
-  pub body-4092 : body (recordsFrom 10 (1330 ∷ 1330 ∷ 1330 ∷ [])) ≡ 4092
   -- "Record bodies in brackets": of all that is put
   pub all-2047 : body (recordsFrom 1 (989 ∷ 990 ∷ [])) ≡ 2047
   pub all-2046 : body (recordsFrom 1 (989 ∷ 989 ∷ [])) ≡ 2046
 
+-- inserts before a base
+pub record BeforeBase : Type 0 where
+  -- "Two inserts of 1,332 before a base of three 1,330: leaves 2,732 and 4,092."
+  pub two-before-a-base : puts 4 (base (recordsFrom 10 (1330 ∷ 1330 ∷ 1330 ∷ []))) (recordsFrom 1 (1332 ∷ 1332 ∷ []))
+      ≡ twoLeaves 4 (recordsFrom 1 (1332 ∷ 1332 ∷ [])) (keyOf 8) (recordsFrom 10 (1330 ∷ 1330 ∷ 1330 ∷ []))
+  pub body-4092 : body (recordsFrom 10 (1330 ∷ 1330 ∷ 1330 ∷ [])) ≡ 4092
+
 -- "The starred trials form a joint list"
 pub record Trials : Type 0 where
   pub without-base : WithoutBase
-  pub with-base : WithBase
+  pub under-cutoff : UnderCutoff
+  pub before-base : BeforeBase
 
 -- ---- the trials without a star
 

@@ -71,44 +71,60 @@ open-again = removeCutoffOf size (waits .work) (waits .list) (waits .store) .wor
 abbrev ends : Digested
 ends = digestOf size open-again (waits .list) (waits .store) [] (replicate 200 9) (replicate 65 9)
 
-pub record Merges : Type 0 where
+-- what the calls answer
+pub record Replies : Type 0 where
   pub opening-is-accepted : opens .reply ≡ Accepted
   pub first-digest : waits .reply ≡ Merge 0 (keyOf 50)
-  pub it-writes-nothing : waits .area ≡ replicate 200 9
-  pub it-keeps-inserts : waits .list ≡ insertAt 0 5 (keyOf 10) 1 ∷ insertAt 5 11 (keyOf 20) 1 ∷ replicate 4 blank
-  pub its-floor : waits .work .floor ≡ keyOf 50
-  -- the joined leaf starts where the first base did
   pub second-digest : joins .reply ≡ Finished 1
-  pub joined-page : joins .area ≡ build size (recordOf 10 5 ∷ recordOf 20 6 ∷ recordOf 60 30 ∷ []) ++ replicate 200 9
-  pub joined-ticket : joins .tickets ≡ (2 ∷ zeroKey) ++ replicate 97 9
-  pub nothing-is-left : joins .list ≡ list
-  -- after a cutoff removal keys below the cutoff stay refused
-  pub key-below : ingestOf size open-again (waits .list) (waits .store) [] (keyOf 49) none .reply ≡ IngestRefused 13
-  pub key-at : ingestOf size open-again (waits .list) (waits .store) [] (keyOf 50) none .reply ≡ Quiet
   pub digest-after-removal : ends .reply ≡ Finished 1
-  pub page-after-removal : ends .area ≡ build size (recordOf 10 5 ∷ recordOf 20 6 ∷ [])
   -- "both refuse an open work with 9 without testing 8"; an unknown turn is 8
   pub removal-when-open : removeCutoffOf size (puts .work) (puts .list) (puts .store) .reply ≡ Refused 9
   pub removal-when-done : removeCutoffOf size (ends .work) (ends .list) (ends .store) .reply ≡ Refused 9
 
-pub a-merge-joins-both-bases : Merges
+pub replies-of-a-merge : Replies
 unfolding num bytesOf ltKey eqKey shared sharedBits leading separateOf bodyLimit recordLimit valueLimit mergeBelow bulkAbove bulkTarget values total word count keyAt numberAt flagAt offsetAt start lengthAt valueAt recordAt run recordsBetween records valuesSize allBelow offsetStep offsetInside offsetsRight valueFits valuesFit keyStep keysRise pageVerdict placeFrom le16 tagged pointers build targetOf cut cutAll plan held inBase chunkPlaces entryPlaces sound stop drops baseVerdict keysVerdict lentVerdict openVerdict ingestVerdict digestVerdict nextBaseVerdict removeVerdict openOf ingestOn digestOn nextBaseOf removeCutoffOf
-a-merge-joins-both-bases = record {
+replies-of-a-merge = record {
   opening-is-accepted = refl;
   first-digest = refl;
-  it-writes-nothing = refl;
-  it-keeps-inserts = refl;
-  its-floor = refl;
   second-digest = refl;
+  digest-after-removal = refl;
+  removal-when-open = refl;
+  removal-when-done = refl;
+}
+
+-- the leaves: the joined one starts where the first base did
+pub record Leaves : Type 0 where
+  pub it-writes-nothing : waits .area ≡ replicate 200 9
+  pub joined-page : joins .area ≡ build size (recordOf 10 5 ∷ recordOf 20 6 ∷ recordOf 60 30 ∷ []) ++ replicate 200 9
+  pub joined-ticket : joins .tickets ≡ (2 ∷ zeroKey) ++ replicate 97 9
+  pub page-after-removal : ends .area ≡ build size (recordOf 10 5 ∷ recordOf 20 6 ∷ [])
+
+pub leaves-of-a-merge : Leaves
+unfolding num bytesOf ltKey eqKey shared sharedBits leading separateOf bodyLimit recordLimit valueLimit mergeBelow bulkAbove bulkTarget values total word count keyAt numberAt flagAt offsetAt start lengthAt valueAt recordAt run recordsBetween records valuesSize allBelow offsetStep offsetInside offsetsRight valueFits valuesFit keyStep keysRise pageVerdict placeFrom le16 tagged pointers build targetOf cut cutAll plan held inBase chunkPlaces entryPlaces sound stop drops baseVerdict keysVerdict lentVerdict openVerdict ingestVerdict digestVerdict nextBaseVerdict removeVerdict openOf ingestOn digestOn nextBaseOf removeCutoffOf
+leaves-of-a-merge = record {
+  it-writes-nothing = refl;
   joined-page = refl;
   joined-ticket = refl;
+  page-after-removal = refl;
+}
+
+-- what is kept, and which keys may come
+pub record Keeps : Type 0 where
+  pub it-keeps-inserts : waits .list ≡ insertAt 0 5 (keyOf 10) 1 ∷ insertAt 5 11 (keyOf 20) 1 ∷ replicate 4 blank
+  pub its-floor : waits .work .floor ≡ keyOf 50
+  pub nothing-is-left : joins .list ≡ list
+  -- after a cutoff removal keys below the cutoff stay refused
+  pub key-below : ingestOf size open-again (waits .list) (waits .store) [] (keyOf 49) none .reply ≡ IngestRefused 13
+  pub key-at : ingestOf size open-again (waits .list) (waits .store) [] (keyOf 50) none .reply ≡ Quiet
+
+pub what-a-merge-keeps : Keeps
+unfolding num bytesOf ltKey eqKey shared sharedBits leading separateOf bodyLimit recordLimit valueLimit mergeBelow bulkAbove bulkTarget values total word count keyAt numberAt flagAt offsetAt start lengthAt valueAt recordAt run recordsBetween records valuesSize allBelow offsetStep offsetInside offsetsRight valueFits valuesFit keyStep keysRise pageVerdict placeFrom le16 tagged pointers build targetOf cut cutAll plan held inBase chunkPlaces entryPlaces sound stop drops baseVerdict keysVerdict lentVerdict openVerdict ingestVerdict digestVerdict nextBaseVerdict removeVerdict openOf ingestOn digestOn nextBaseOf removeCutoffOf
+what-a-merge-keeps = record {
+  it-keeps-inserts = refl;
+  its-floor = refl;
   nothing-is-left = refl;
   key-below = refl;
   key-at = refl;
-  digest-after-removal = refl;
-  page-after-removal = refl;
-  removal-when-open = refl;
-  removal-when-done = refl;
 }
 
 -- ---- soundness
