@@ -23,47 +23,25 @@ use Rattle.bit_ops.proofs.SharedBits.{shared-same, shared-bits-by-xor}
 use Rattle.bit_ops.proofs.Digits.{lt-digit, shared-digit}
 
 -- what the code adds up
-eight : (l : List ℕ) → 8 ≤ length l
-    → getD l 0 0 * 72057594037927936 + (getD l 1 0 * 281474976710656 + (getD l 2 0 * 1099511627776 + (getD l 3 0 * 4294967296 + (getD l 4 0 * 16777216 + (getD l 5 0 * 65536 + (getD l 6 0 * 256 + getD l 7 0))))))
-    ≡ num (take 8 l)
+four : (l : List ℕ) → 4 ≤ length l → getD l 0 0 * 16777216 + (getD l 1 0 * 65536 + (getD l 2 0 * 256 + getD l 3 0)) ≡ num (take 4 l)
 unfolding num
-eight (a ∷ b ∷ c ∷ d ∷ e ∷ f ∷ g ∷ h ∷ l) n = omega arith
-eight [] n = absurd (omega arith)
-eight (a ∷ []) n = absurd (omega arith)
-eight (a ∷ b ∷ []) n = absurd (omega arith)
-eight (a ∷ b ∷ c ∷ []) n = absurd (omega arith)
-eight (a ∷ b ∷ c ∷ d ∷ []) n = absurd (omega arith)
-eight (a ∷ b ∷ c ∷ d ∷ e ∷ []) n = absurd (omega arith)
-eight (a ∷ b ∷ c ∷ d ∷ e ∷ f ∷ []) n = absurd (omega arith)
-eight (a ∷ b ∷ c ∷ d ∷ e ∷ f ∷ g ∷ []) n = absurd (omega arith)
+four (a ∷ b ∷ c ∷ d ∷ l) n = omega arith
+four [] n = absurd (omega arith)
+four (a ∷ []) n = absurd (omega arith)
+four (a ∷ b ∷ []) n = absurd (omega arith)
+four (a ∷ b ∷ c ∷ []) n = absurd (omega arith)
 
-pub word-number : (k : List ℕ) (i a b c d e f g h : ℕ) → length k ≡ 32 → i < 4
-    → a ≡ getD k (8 * i) 0 → b ≡ getD k (8 * i + 1) 0 → c ≡ getD k (8 * i + 2) 0 → d ≡ getD k (8 * i + 3) 0
-    → e ≡ getD k (8 * i + 4) 0 → f ≡ getD k (8 * i + 5) 0 → g ≡ getD k (8 * i + 6) 0 → h ≡ getD k (8 * i + 7) 0
-    → a * 72057594037927936 + (b * 281474976710656 + (c * 1099511627776 + (d * 4294967296 + (e * 16777216 + (f * 65536 + (g * 256 + h)))))) ≡ wordAt k i
-unfolding wordAt
-word-number k i a b c d e f g h l w ea eb ec ed ee ef eg eh =
-    let at : ℕ = 8 * i in
-    let first : getD (drop at k) 0 0 ≡ getD k at 0 = getD-drop at k 0 0 ∙ ap (λ (j : ℕ). getD k j 0) (add-zero at) in
-    rw (
-      ea,
-      eb,
-      ec,
-      ed,
-      ee,
-      ef,
-      eg,
-      eh,
-      ← first,
-      ← getD-drop at k 1 0,
-      ← getD-drop at k 2 0,
-      ← getD-drop at k 3 0,
-      ← getD-drop at k 4 0,
-      ← getD-drop at k 5 0,
-      ← getD-drop at k 6 0,
-      ← getD-drop at k 7 0,
-    )
-    (eight (drop at k) (rw (length-drop at k) (omega arith)))
+module _ (xs : List ℕ) (at : ℕ) where
+  pub four-spell : (a b c d : ℕ) → at + 4 ≤ length xs → a ≡ getD xs at 0 → b ≡ getD xs (at + 1) 0 → c ≡ getD xs (at + 2) 0 → d ≡ getD xs (at + 3) 0
+      → a * 16777216 + (b * 65536 + (c * 256 + d)) ≡ num (take 4 (drop at xs))
+  four-spell a b c d l ea eb ec ed =
+      let first : getD (drop at xs) 0 0 ≡ getD xs at 0 = getD-drop at xs 0 0 ∙ ap (λ (j : ℕ). getD xs j 0) (add-zero at) in
+      rw (ea, eb, ec, ed, ← first, ← getD-drop at xs 1 0, ← getD-drop at xs 2 0, ← getD-drop at xs 3 0) (four (drop at xs) (rw (length-drop at xs) (omega arith)))
+
+  pub two-halves : (x y : ℕ) → at + 8 ≤ length xs → x ≡ num (take 4 (drop at xs)) → y ≡ num (take 4 (drop (at + 4) xs)) → x * 4294967296 + y ≡ num (take 8 (drop at xs))
+  two-halves x y l ex ey =
+      let m : length (take 4 (drop (at + 4) xs)) ≡ 4 = part-length 4 (at + 4) xs (omega arith) in
+      rw (take-add 4 4 (drop at xs), drop-drop 4 at xs, num-append (take 4 (drop at xs)) (take 4 (drop (at + 4) xs)), m, ex, ey)
 
 -- ---- keys by words
 

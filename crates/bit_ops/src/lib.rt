@@ -2,9 +2,9 @@
 // Ported from nomt/src/beatree/ops/bit_ops.rs of thrumdev/nomt: `prefix_len` and `separate`.
 use refusal::EQUAL_KEYS;
 ghost use mathlib.Core.Path.{_≡_};
-ghost use Prim.Native.Nat.{_-_, _^_, _<_, _≤_};
-ghost use lib.ListN.{length};
-ghost use Rattle.bit_ops.specs.Key.{Key, ltKey, eqKey};
+ghost use Prim.Native.Nat.{_+_, _-_, _^_, _<_, _≤_};
+ghost use lib.ListN.{length, take, drop};
+ghost use Rattle.bit_ops.specs.Key.{Key, num, ltKey, eqKey};
 ghost use Rattle.bit_ops.specs.Separate.{sharedBits, separateVerdict, separateLeaves};
 ghost use Rattle.bit_ops.specs.Steps.{wordAt, Differing, clearedFrom, cutAfter};
 
@@ -14,20 +14,30 @@ fn wide(x: u8) -> u64
     x as u64
 }
 
-// Word i of a key, so that keys are compared by eight bytes at a time: in this form the compiler makes one load of it.
+// The number that four bytes from `at` on spell.
+fn half_word(bytes: &[u8], at: usize) -> u64
+    requires { ⌜ at + 4 ≤ length (now bytes) ⌝ }
+    ensures { λ r. ⌜ (r ≡ num (take 4 (drop at (now (bytes .entry))))) × (r < 4294967296) ⌝ }
+{
+    let two = wide(bytes[at + 2]) * 256 + wide(bytes[at + 3]);
+    let three = wide(bytes[at + 1]) * 65536 + two;
+    wide(bytes[at]) * 16777216 + three
+}
+
+// The number that eight bytes from `at` on spell: in this form the compiler makes one load of them.
+pub fn word_from(bytes: &[u8], at: usize) -> u64
+    requires { ⌜ at + 8 ≤ length (now bytes) ⌝ }
+    ensures { λ r. ⌜ r ≡ num (take 8 (drop at (now (bytes .entry)))) ⌝ }
+{
+    half_word(bytes, at) * 4294967296 + half_word(bytes, at + 4)
+}
+
+// Word i of a key, so that keys are compared by eight bytes at a time.
 fn word_at(key: &[u8], i: usize) -> u64
     requires { ⌜ (length (now key) ≡ 32) × (i < 4) ⌝ }
     ensures { λ r. ⌜ r ≡ wordAt (now (key .entry)) i ⌝ }
 {
-    let at = 8 * i;
-    let one = wide(key[at + 7]);
-    let two = wide(key[at + 6]) * 256 + one;
-    let three = wide(key[at + 5]) * 65536 + two;
-    let four = wide(key[at + 4]) * 16777216 + three;
-    let five = wide(key[at + 3]) * 4294967296 + four;
-    let six = wide(key[at + 2]) * 1099511627776 + five;
-    let seven = wide(key[at + 1]) * 281474976710656 + six;
-    wide(key[at]) * 72057594037927936 + seven
+    word_from(key, 8 * i)
 }
 
 // Two keys at the first word in which they differ, or at the last one: which word, and what each key has there.

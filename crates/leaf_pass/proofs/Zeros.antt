@@ -2,75 +2,42 @@
 use mathlib.Core.Path.{_≡_, refl, sym, ap, _∙_}
 use mathlib.Core.Bool.{Bool, true, false, not, _&&_, false≢true, true≢false}
 use mathlib.Core.List.{List, [], _∷_, _++_}
-use Prim.Native.Nat.{ℕ, suc, _+_, _*_, _≤_, _<_}
+use Prim.Native.Nat.{ℕ, _+_, _*_, _^_, _<_}
+use native.Mathlib.Nat.{mul-le-mul-right}
+use native.Mathlib.Decide.{decLt}
 use native.Mathlib.Omega.{arith}
 use lib.Dec.{eqb}
 use lib.ListN.{length, getD, take, drop, take-append-drop, drop-of-length-le}
 use lib.Seq.{drop-cons, drop-drop}
-use borrow.Author.Tests.{eq-eqb, eqb-true, not-true, not-false}
+use borrow.Author.Tests.{eq-eqb, ne-eqb, eqb-true, not-true, not-false}
 use Rattle.leaf_node.specs.Fits.{All, nil, cons}
+use Rattle.bit_ops.specs.Key.{num}
 use Rattle.bit_ops.specs.Steps.{zeros}
+use Rattle.bit_ops.proofs.Number.{pow256-pos}
 use Rattle.leaf_model.specs.Work.{zeroKey}
 use Rattle.leaf_work.specs.Tests.{every, isZero, sameBytes}
 use Rattle.leaf_work.proofs.Tests.{every-all}
 use Rattle.leaf_work.proofs.Tests.{one-test}
 
--- eight bytes as one number, the first byte the lowest
-module _ (a b c d e f g h n : ℕ)
-    (q : n ≡ h * 72057594037927936 + (g * 281474976710656 + (f * 1099511627776 + (e * 4294967296 + (d * 16777216 + (c * 65536 + (b * 256 + a))))))) where
-  eight : eqb n 0 ≡ every isZero (a ∷ b ∷ c ∷ d ∷ e ∷ f ∷ g ∷ h ∷ [])
-  eight = one-test _ _ all-zero none
-    where
-      all-zero : eqb n 0 ≡ true → every isZero (a ∷ b ∷ c ∷ d ∷ e ∷ f ∷ g ∷ h ∷ []) ≡ true
-      all-zero z =
-          let y : n ≡ 0 = eqb-true n 0 z in
-          rw (
-            eq-eqb a 0 (omega (arith, q, y)),
-            eq-eqb b 0 (omega (arith, q, y)),
-            eq-eqb c 0 (omega (arith, q, y)),
-            eq-eqb d 0 (omega (arith, q, y)),
-            eq-eqb e 0 (omega (arith, q, y)),
-            eq-eqb f 0 (omega (arith, q, y)),
-            eq-eqb g 0 (omega (arith, q, y)),
-            eq-eqb h 0 (omega (arith, q, y)),
-            every,
-          )
+-- bytes that spell zero are zeros
+zeros-spell-zero : (xs : List ℕ) → eqb (num xs) 0 ≡ every isZero xs
+unfolding num
+zeros-spell-zero [] = refl
+zeros-spell-zero (x ∷ xs) = go (eqb x 0) refl (zeros-spell-zero xs)
+  where
+    above : (x ≡ 0 → ⊥) → 0 < x
+    above ne = elim (decLt 0 x) [ yes l ↦ l | no l ↦ absurd (ne (omega arith)) ]
 
-      sum : All (λ x. isZero x ≡ true) (a ∷ b ∷ c ∷ d ∷ e ∷ f ∷ g ∷ h ∷ []) → n ≡ 0
-      sum (cons x₁ (cons x₂ (cons x₃ (cons x₄ (cons x₅ (cons x₆ (cons x₇ (cons x₈ nil)))))))) =
-          omega
-          (arith, q, eqb-true a 0 x₁, eqb-true b 0 x₂, eqb-true c 0 x₃, eqb-true d 0 x₄, eqb-true e 0 x₅, eqb-true f 0 x₆, eqb-true g 0 x₇, eqb-true h 0 x₈)
+    go : (b : Bool) → eqb x 0 ≡ b → eqb (num xs) 0 ≡ every isZero xs → eqb (x * 256 ^ length xs + num xs) 0 ≡ every isZero (x ∷ xs)
+    go true e ih =
+        let rest : x * 256 ^ length xs + num xs ≡ num xs = rw (eqb-true x 0 e) (omega arith) in
+        rw (rest, e, every) ih
+    go false e ih =
+        let some : 0 < x = above (λ z. true≢false (sym (eq-eqb x 0 z) ∙ e)) in
+        rw (e, every) (ne-eqb (x * 256 ^ length xs + num xs) 0 (λ z. absurd (omega (arith, z, pow256-pos (length xs), mul-le-mul-right (256 ^ length xs) some))))
 
-      none : every isZero (a ∷ b ∷ c ∷ d ∷ e ∷ f ∷ g ∷ h ∷ []) ≡ true → eqb n 0 ≡ true
-      none z = eq-eqb n 0 (sum (every-all isZero (a ∷ b ∷ c ∷ d ∷ e ∷ f ∷ g ∷ h ∷ []) z))
-
-module _ (xs : List ℕ) (i : ℕ) (l : i + 8 ≤ length xs) where
-  one : (m n k j : ℕ) → k < length xs → m ≡ suc n → j ≡ k + 1 → take m (drop k xs) ≡ getD xs k 0 ∷ take n (drop j xs)
-  one m n k j h e f = let g : j ≡ suc k = omega arith in rw (e, g, drop-cons xs k 0 h)
-
-  eight-bytes : take 8 (drop i xs)
-      ≡ getD xs i 0 ∷ getD xs (i + 1) 0 ∷ getD xs (i + 2) 0 ∷ getD xs (i + 3) 0 ∷ getD xs (i + 4) 0 ∷ getD xs (i + 5) 0 ∷ getD xs (i + 6) 0 ∷ getD xs (i + 7) 0 ∷ []
-  eight-bytes =
-      one 8 7 i (i + 1) (omega arith) refl refl
-      ∙ ap (λ (r : List ℕ). getD xs i 0 ∷ r) (
-      one 7 6 (i + 1) (i + 2) (omega arith) refl (omega arith)
-      ∙ ap (λ (r : List ℕ). getD xs (i + 1) 0 ∷ r) (
-      one 6 5 (i + 2) (i + 3) (omega arith) refl (omega arith)
-      ∙ ap (λ (r : List ℕ). getD xs (i + 2) 0 ∷ r) (
-      one 5 4 (i + 3) (i + 4) (omega arith) refl (omega arith)
-      ∙ ap (λ (r : List ℕ). getD xs (i + 3) 0 ∷ r) (
-      one 4 3 (i + 4) (i + 5) (omega arith) refl (omega arith)
-      ∙ ap (λ (r : List ℕ). getD xs (i + 4) 0 ∷ r) (
-      one 3 2 (i + 5) (i + 6) (omega arith) refl (omega arith)
-      ∙ ap (λ (r : List ℕ). getD xs (i + 5) 0 ∷ r) (
-      one 2 1 (i + 6) (i + 7) (omega arith) refl (omega arith)
-      ∙ ap (λ (r : List ℕ). getD xs (i + 6) 0 ∷ r) (one 1 0 (i + 7) (i + 8) (omega arith) refl (omega arith))))))))
-
-  pub eight-by : (a b c d e f g h : ℕ) → a ≡ getD xs i 0 → b ≡ getD xs (i + 1) 0 → c ≡ getD xs (i + 2) 0 → d ≡ getD xs (i + 3) 0 → e ≡ getD xs (i + 4) 0
-      → f ≡ getD xs (i + 5) 0 → g ≡ getD xs (i + 6) 0 → h ≡ getD xs (i + 7) 0
-      → eqb (h * 72057594037927936 + (g * 281474976710656 + (f * 1099511627776 + (e * 4294967296 + (d * 16777216 + (c * 65536 + (b * 256 + a))))))) 0
-      ≡ every isZero (take 8 (drop i xs))
-  eight-by a b c d e f g h x₁ x₂ x₃ x₄ x₅ x₆ x₇ x₈ = eight a b c d e f g h _ refl ∙ rw (eight-bytes, x₁, x₂, x₃, x₄, x₅, x₆, x₇, x₈)
+pub eight-by : (xs : List ℕ) (i n : ℕ) → n ≡ num (take 8 (drop i xs)) → eqb n 0 ≡ every isZero (take 8 (drop i xs))
+eight-by xs i n e = rw e (zeros-spell-zero (take 8 (drop i xs)))
 
 every-append : (xs ys : List ℕ) → every isZero xs ≡ true → every isZero (xs ++ ys) ≡ every isZero ys
 every-append [] ys h = refl

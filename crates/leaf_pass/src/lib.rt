@@ -1,5 +1,6 @@
 // The pass over the list in which a work's soundness is tested: each entry is held against what was seen before it.
 use bit_ops::less;
+use bit_ops::word_from;
 ghost use mathlib.Core.Path.{_≡_};
 ghost use Prim.Native.Nat.{_+_, _-_, _≤_, _<_};
 ghost use lib.ListN.{length, getD, take, drop};
@@ -45,24 +46,12 @@ fn minus(a: usize, b: usize) -> usize
     a - b
 }
 
-fn wide(x: u8) -> u64
-    ensures { λ r. ⌜ (r ≡ x) × (r < 256) ⌝ }
-{
-    x as u64
-}
-
-// Whether the eight bytes from `i` on are zeros: in this form the compiler makes one load of them.
+// Whether the eight bytes from `i` on are zeros.
 fn eight_zeros(bytes: &[u8], i: usize) -> bool
     requires { ⌜ i + 8 ≤ length (now bytes) ⌝ }
     ensures { λ r. ⌜ r ≡ every isZero (take 8 (drop i (now (bytes .entry)))) ⌝ }
 {
-    let two = wide(bytes[i + 1]) * 256 + wide(bytes[i]);
-    let three = wide(bytes[i + 2]) * 65536 + two;
-    let four = wide(bytes[i + 3]) * 16777216 + three;
-    let five = wide(bytes[i + 4]) * 4294967296 + four;
-    let six = wide(bytes[i + 5]) * 1099511627776 + five;
-    let seven = wide(bytes[i + 6]) * 281474976710656 + six;
-    wide(bytes[i + 7]) * 72057594037927936 + seven == 0
+    word_from(bytes, i) == 0
 }
 
 // Whether the bytes from `from` on are zeros, byte by byte.
