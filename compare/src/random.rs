@@ -44,50 +44,67 @@ pub struct Tally {
     kinds: Vec<Kind>,
 }
 
-#[derive(Default)]
 struct Kind {
-    name: &'static str,
+    whose: Whose,
+    call: &'static str,
+    refused: bool,
     count: u64,
     /// How often each refusal was met, where the calls are refused ones.
     refusals: BTreeMap<u8, u64>,
 }
 
+/// Whose calls are counted: the library's, or those of the plain functions.
+#[derive(Clone, Copy, PartialEq)]
+pub enum Whose {
+    Library,
+    Plain,
+}
+
 impl Tally {
-    fn kind(&mut self, name: &'static str) -> &mut Kind {
-        let place = self.kinds.iter().position(|kind| kind.name == name);
+    fn kind(&mut self, whose: Whose, call: &'static str, refused: bool) -> &mut Kind {
+        let sought = (whose, call, refused);
+        let mut kinds = self.kinds.iter();
+        let place = kinds.position(|kind| (kind.whose, kind.call, kind.refused) == sought);
         let place = place.unwrap_or_else(|| {
             self.kinds.push(Kind {
-                name,
-                ..Kind::default()
+                whose,
+                call,
+                refused,
+                count: 0,
+                refusals: BTreeMap::new(),
             });
             self.kinds.len() - 1
         });
         &mut self.kinds[place]
     }
 
-    pub fn agreed(&mut self, kind: &'static str) {
-        self.agreed_times(kind, 1);
+    /// A call of the library that was accepted.
+    pub fn agreed(&mut self, call: &'static str) {
+        self.agreed_times(call, 1);
     }
 
-    pub fn agreed_times(&mut self, kind: &'static str, times: u64) {
-        self.kind(kind).count += times;
+    pub fn agreed_times(&mut self, call: &'static str, times: u64) {
+        self.kind(Whose::Library, call, false).count += times;
     }
 
-    /// A call that was refused by this number, as it had to be.
-    pub fn refused(&mut self, kind: &'static str, number: u8) {
-        let kind = self.kind(kind);
+    /// A call that was refused by this number, as it had to be, or accepted where the number is 0.
+    pub fn answered(&mut self, whose: Whose, call: &'static str, number: u8) {
+        let kind = self.kind(whose, call, number != 0);
         kind.count += 1;
-        *kind.refusals.entry(number).or_default() += 1;
+        if number != 0 {
+            *kind.refusals.entry(number).or_default() += 1;
+        }
     }
 
     #[cfg(test)]
-    pub fn refusals(&mut self, kind: &'static str) -> Vec<u8> {
-        self.kind(kind).refusals.keys().copied().collect()
+    pub fn refusals(&mut self, whose: Whose, call: &'static str) -> Vec<u8> {
+        let kind = self.kind(whose, call, true);
+        kind.refusals.keys().copied().collect()
     }
 
     #[cfg(test)]
-    pub fn count(&mut self, kind: &'static str) -> u64 {
-        self.kind(kind).count
+    pub fn accepted(&mut self, call: &'static str) -> u64 {
+        self.kind(Whose::Library, call, false).count
     }
 
     pub fn total(&self) -> u64 {
@@ -97,7 +114,12 @@ impl Tally {
 
 impl fmt::Display for Kind {
     fn fmt(&self, f: &mut fmt::Formatter) -> fmt::Result {
-        write!(f, "{}: {}", self.name, self.count)?;
+        let whose = match self.whose {
+            Whose::Library => "",
+            Whose::Plain => "plain ",
+        };
+        let refused = if self.refused { ", refused" } else { "" };
+        write!(f, "{whose}{}{refused}: {}", self.call, self.count)?;
         for (i, (number, count)) in self.refusals.iter().enumerate() {
             let before = if i == 0 { "; by No." } else { "," };
             write!(f, "{before} {number}: {count}")?;

@@ -302,6 +302,7 @@ impl Sequence {
 #[cfg(test)]
 mod tests {
     use super::*;
+    use crate::random::Whose;
 
     /// Which call answers which refusal: a few rounds meet each of these, and no other.
     #[test]
@@ -311,36 +312,17 @@ mod tests {
         for _ in 0..48 {
             assert!(round(&mut rng, &mut tally).is_ok());
         }
-        for (name, due) in [
-            ("plain opening, refused", &[1, 2, 3, 4, 5, 6, 7][..]),
-            (
-                "plain ingest, refused",
-                &[1, 2, 3, 4, 5, 6, 7, 8, 9, 12, 13, 14, 15, 16],
-            ),
-            ("plain digest, refused", &[1, 2, 3, 4, 5, 6, 7, 8, 9, 17]),
-            (
-                "plain next base, refused",
-                &[1, 2, 3, 4, 5, 6, 7, 8, 9, 13, 15, 16],
-            ),
-            ("plain cutoff removal, refused", &[7, 8, 9]),
-            (
-                "plain twin and part, refused",
-                &[1, 2, 3, 4, 5, 6, 7, 8, 10],
-            ),
-            ("opening, refused", &[1, 2, 3, 4, 5, 6, 7]),
-            (
-                "ingest, refused",
-                &[1, 2, 3, 4, 5, 6, 7, 8, 9, 12, 13, 14, 15, 16],
-            ),
-            ("digest, refused", &[1, 2, 3, 4, 5, 6, 7, 8, 9, 17]),
-            (
-                "next base, refused",
-                &[1, 2, 3, 4, 5, 6, 7, 8, 9, 13, 15, 16],
-            ),
-            ("cutoff removal, refused", &[7, 8, 9]),
-            ("twin and part, refused", &[1, 2, 3, 4, 5, 6, 7, 8, 10]),
+        for (call, due) in [
+            ("opening", &[1, 2, 3, 4, 5, 6, 7][..]),
+            ("ingest", &[1, 2, 3, 4, 5, 6, 7, 8, 9, 12, 13, 14, 15, 16]),
+            ("digest", &[1, 2, 3, 4, 5, 6, 7, 8, 9, 17]),
+            ("next base", &[1, 2, 3, 4, 5, 6, 7, 8, 9, 13, 15, 16]),
+            ("cutoff removal", &[7, 8, 9]),
+            ("twin and part", &[1, 2, 3, 4, 5, 6, 7, 8, 10]),
         ] {
-            assert_eq!(tally.refusals(name), due, "{name}");
+            for whose in [Whose::Plain, Whose::Library] {
+                assert_eq!(tally.refusals(whose, call), due, "{call}");
+            }
         }
     }
 }

@@ -7,7 +7,7 @@ use crate::ours::pages::{LeafValue, LentPage};
 use crate::pages::made::{self, above, below, bytes};
 use crate::pages::{agree, count, MOST_RECORDS};
 use crate::plain::page;
-use crate::random::{Mismatch, Tally};
+use crate::random::{Mismatch, Tally, Whose};
 use crate::rng::Rng;
 use std::fmt::Debug;
 
@@ -27,13 +27,7 @@ pub fn run(rng: &mut Rng, tally: &mut Tally) -> Result<(), Mismatch> {
         tally,
     };
     let good = page::good(&page);
-    on_page.same(
-        ["page check", "page check, refused"],
-        "",
-        lent.check(),
-        refusal(good),
-        refusal(good),
-    )?;
+    on_page.same("page check", "", lent.check(), refusal(good), refusal(good))?;
     for _ in 0..ROUNDS {
         on_page.reads(&lent, rng)?;
         on_page.ranges(&lent, rng)?;
@@ -80,17 +74,14 @@ impl OnPage<'_> {
     /// Compares an answer with what is due, and counts it by its refusal.
     fn same<T: PartialEq + Debug>(
         &mut self,
-        [accepted, refused]: [&'static str; 2],
+        call: &'static str,
         inputs: &str,
         ours: Result<T, Damage>,
         due: T,
         refusal: u8,
     ) -> Result<(), Mismatch> {
-        agree(accepted, self.page, inputs, ours, due)?;
-        match refusal {
-            0 => self.tally.agreed(accepted),
-            number => self.tally.refused(refused, number),
-        }
+        agree(call, self.page, inputs, ours, due)?;
+        self.tally.answered(Whose::Library, call, refusal);
         Ok(())
     }
 
@@ -109,32 +100,14 @@ impl OnPage<'_> {
             refusal: refusal(key),
             key: key.unwrap_or_default(),
         };
-        self.same(
-            ["page key", "page key, refused"],
-            &inputs,
-            lent.key(i),
-            due,
-            due.refusal,
-        )?;
+        self.same("page key", &inputs, lent.key(i), due, due.refusal)?;
         let due = cell(page::value(self.page, i).map(Some));
-        self.same(
-            ["page value", "page value, refused"],
-            &inputs,
-            lent.value(i),
-            due,
-            due.refusal,
-        )?;
+        self.same("page value", &inputs, lent.value(i), due, due.refusal)?;
         let near = key.unwrap_or(rng.key());
         let key = [near, near, above(&near), below(&near), rng.key()][rng.between(0, 4)];
         let due = cell(page::get(self.page, &key));
         let inputs = format!("key {}", hex::plain(&key));
-        self.same(
-            ["page get", "page get, refused"],
-            &inputs,
-            lent.get(&key),
-            due,
-            due.refusal,
-        )
+        self.same("page get", &inputs, lent.get(&key), due, due.refusal)
     }
 
     fn ranges(&mut self, lent: &LentPage, rng: &mut Rng) -> Result<(), Mismatch> {
@@ -146,13 +119,7 @@ impl OnPage<'_> {
         };
         let inputs = format!("from {from}, to {to}");
         let ours = lent.values_size(from, to);
-        self.same(
-            ["page values_size", "page values_size, refused"],
-            &inputs,
-            ours,
-            due,
-            due.refusal,
-        )?;
+        self.same("page values_size", &inputs, ours, due, due.refusal)?;
         let mut range = made::range(rng, self.n);
         if rng.between(0, 3) == 0 {
             range[rng.between(0, 2)] = self.index(rng);
@@ -163,13 +130,7 @@ impl OnPage<'_> {
         let number = refusal(page::rebuild(self.page, range, &mut out));
         let inputs = format!("from, mid, to {range:?}, buffer of {length}");
         let ours = lent.rebuild(range, &before);
-        self.same(
-            ["page rebuild", "page rebuild, refused"],
-            &inputs,
-            ours,
-            (number, out),
-            number,
-        )
+        self.same("page rebuild", &inputs, ours, (number, out), number)
     }
 }
 

@@ -10,10 +10,10 @@ use crate::plain::digest::TICKET;
 use crate::plain::pending;
 use crate::plain::side::Plain;
 use crate::plain::work::{Entry, State};
-use crate::random::{Mismatch, Tally};
+use crate::random::{Mismatch, Tally, Whose};
 use crate::rng::Rng;
 use crate::sequences::made;
-use crate::sequences::pair::{library_names, Due, Pair};
+use crate::sequences::pair::{name, Due, Pair};
 use crate::sequences::{damaged, refused};
 use crate::vectors::answers::Answer;
 use crate::vectors::calls::{Base, Call, Change, Instead};
@@ -83,7 +83,6 @@ fn open(
     let answer = plain.open_over(held.clone(), base, cutoff);
     let ours = library.open_over(held, base, cutoff);
     let as_due = due.is_none_or(|number| answer == Ok(Answer::Refused(number)));
-    let [accepted, refused] = library_names(call);
     if !as_due || answer != ours || plain.state != library.state {
         let lines = vec![
             ("call", call.line()),
@@ -91,13 +90,11 @@ fn open(
             ("plain", format!("{answer:?}, {:?}", plain.state.work)),
             ("library", format!("{ours:?}, {:?}", library.state.work)),
         ];
-        let call = accepted;
+        let call = name(call);
         return Err(Mismatch { call, lines });
     }
-    match answer {
-        Ok(Answer::Refused(number)) => tally.refused(refused, number),
-        _ => tally.agreed(accepted),
-    }
+    let number = answer.map_or(0, |answer| answer.refusal());
+    tally.answered(Whose::Library, name(call), number);
     Ok(())
 }
 

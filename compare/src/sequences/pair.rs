@@ -10,7 +10,7 @@ use crate::pages::made;
 use crate::plain::pending;
 use crate::plain::side::Plain;
 use crate::plain::sound::sound;
-use crate::random::{Mismatch, Tally};
+use crate::random::{Mismatch, Tally, Whose};
 use crate::rng::Rng;
 use crate::vectors::answers::Answer;
 use crate::vectors::calls::Call;
@@ -27,32 +27,18 @@ pub struct Pair {
     accepted: Vec<Rc<Call>>,
 }
 
-/// The names of a call in the run's tally: accepted, and refused.
-fn names(call: &Call) -> [&'static str; 2] {
+/// The name of a call in the run's tally.
+pub fn name(call: &Call) -> &'static str {
     match call {
-        Call::Open { .. } => ["plain opening", "plain opening, refused"],
-        Call::Ingest { .. } => ["plain ingest", "plain ingest, refused"],
-        Call::Digest { .. } => ["plain digest", "plain digest, refused"],
-        Call::Next { .. } => ["plain next base", "plain next base, refused"],
-        Call::Uncut { .. } => ["plain cutoff removal", "plain cutoff removal, refused"],
-        Call::Twin { .. } => ["plain twin and part", "plain twin and part, refused"],
-        Call::Scope { .. } => ["plain is_in_scope"; 2],
-        _ => ["plain separator"; 2],
-    }
-}
-
-/// The names of the library's calls.
-pub fn library_names(call: &Call) -> [&'static str; 2] {
-    match call {
-        Call::Open { .. } => ["opening", "opening, refused"],
-        Call::Ingest { .. } => ["ingest", "ingest, refused"],
-        Call::Digest { .. } => ["digest", "digest, refused"],
-        Call::Next { .. } => ["next base", "next base, refused"],
-        Call::Uncut { .. } => ["cutoff removal", "cutoff removal, refused"],
-        Call::Twin { .. } => ["twin and part", "twin and part, refused"],
-        Call::Scope { .. } => ["is_in_scope"; 2],
-        Call::Separator => ["separator"; 2],
-        _ => ["twin and part, all pending"; 2],
+        Call::Open { .. } => "opening",
+        Call::Ingest { .. } => "ingest",
+        Call::Digest { .. } => "digest",
+        Call::Next { .. } => "next base",
+        Call::Uncut { .. } => "cutoff removal",
+        Call::Twin { .. } => "twin and part",
+        Call::Scope { .. } => "is_in_scope",
+        Call::Separator => "separator",
+        _ => "twin and part, all pending",
     }
 }
 
@@ -71,7 +57,7 @@ impl Pair {
         let answer = self.answer(&call, tally)?;
         if let Some(number) = due {
             self.same(&call, "answer", &answer, &Answer::Refused(number))?;
-            tally.refused(names(&call)[1], number);
+            tally.answered(Whose::Plain, name(&call), number);
             return Ok(());
         }
         self.accept(call, &answer, tally)
@@ -81,7 +67,7 @@ impl Pair {
     pub fn run_either(&mut self, call: Call, tally: &mut Tally) -> Result<bool, Mismatch> {
         let answer = self.answer(&call, tally)?;
         if let Answer::Refused(number) = answer {
-            tally.refused(names(&call)[1], number);
+            tally.answered(Whose::Plain, name(&call), number);
             return Ok(false);
         }
         self.accept(call, &answer, tally)?;
@@ -93,7 +79,7 @@ impl Pair {
         self.claim.feed(&call, answer);
         let holds = self.claim.holds(&self.plain);
         self.same(&call, "tally of demand 3", &holds, &true)?;
-        tally.agreed(names(&call)[0]);
+        tally.answered(Whose::Plain, name(&call), 0);
         self.accepted.push(Rc::new(call));
         self.read_after(tally)
     }
@@ -118,7 +104,7 @@ impl Pair {
         let calls = pending.len() as u64 + 1;
         let due = Answer::Dump { entries, pending };
         self.same(&call, "pending records by twin and part", &due, &ours)?;
-        tally.agreed_times(library_names(&call)[0], calls);
+        tally.agreed_times(name(&call), calls);
         Ok(())
     }
 
@@ -144,11 +130,7 @@ impl Pair {
             let work = (&self.plain.state.work, &library.state.work);
             return Err(self.differ(call, "what the library leaves", &work.0, &work.1));
         }
-        let [accepted, refused] = library_names(call);
-        match answer {
-            Answer::Refused(number) => tally.refused(refused, number),
-            _ => tally.agreed(accepted),
-        }
+        tally.answered(Whose::Library, name(call), answer.refusal());
         Ok(answer)
     }
 
@@ -159,10 +141,12 @@ impl Pair {
         due: Due,
         tally: &mut Tally,
     ) -> Result<(), Mismatch> {
-        match Pair::answer_on_damaged(damaged, call, due, tally)? {
-            Answer::Refused(n) => tally.refused("plain call on a damaged work, refused", n),
-            _ => tally.agreed("plain call on a changed work that is still sound"),
-        }
+        let number = Pair::answer_on_damaged(damaged, call, due, tally)?.refusal();
+        let call = match number {
+            0 => "call on a changed work that is still sound",
+            _ => "call on a damaged work",
+        };
+        tally.answered(Whose::Plain, call, number);
         Ok(())
     }
 
@@ -251,7 +235,7 @@ impl Pair {
             let answer = self.answer(&call, tally)?;
             let rust = self.rust.answer(&call);
             self.same(&call, "answer", &answer, &rust)?;
-            tally.agreed(names(&call)[0]);
+            tally.answered(Whose::Plain, name(&call), 0);
         }
         Ok(())
     }
@@ -296,7 +280,7 @@ impl Pair {
         all.push(("call", call.line()));
         all.append(&mut lines);
         Mismatch {
-            call: names(call)[0],
+            call: name(call),
             lines: all,
         }
     }

@@ -35,6 +35,16 @@ pub enum Answer {
     Size(usize),
 }
 
+impl Answer {
+    /// The number by which the call was refused, 0 where it was accepted.
+    pub fn refusal(&self) -> u8 {
+        match self {
+            Answer::Refused(number) => *number,
+            _ => 0,
+        }
+    }
+}
+
 #[derive(Clone, Debug, PartialEq)]
 pub enum Holder {
     Store,
