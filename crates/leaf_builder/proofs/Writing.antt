@@ -12,7 +12,7 @@ use Rattle.bit_ops.specs.Steps.{zeros}
 use Rattle.leaf_node.specs.Record.{Record, values, total}
 use Rattle.leaf_node.specs.Page.{count, pointer, keyAt, offsetAt, flagAt, start, lengthAt, valueAt, recordAt, run, recordsBetween, valuesSize}
 use Rattle.leaf_node.specs.Build.{le16, tagged, pointers, put, started, pushed}
-use Rattle.leaf_node.specs.Reply.{cellAt}
+use Rattle.leaf_node.specs.Cell.{cellAt}
 use Rattle.leaf_node.specs.Steps.{Readable}
 use Rattle.leaf_node.specs.Fits.{All, nil, cons, Keyed}
 use Rattle.leaf_node.specs.declared.Cell as node

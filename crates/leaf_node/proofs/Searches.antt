@@ -16,13 +16,10 @@ use Rattle.bit_ops.specs.Key.{Bytes, Key, num, ltKey, eqKey}
 use Rattle.bit_ops.proofs.Order.{equal-numbers-are-equal-keys}
 use Rattle.leaf_node.specs.declared.Place.{Place}
 use Rattle.leaf_node.specs.declared.Place.the-variants.{Found, Absent}
-use Rattle.leaf_node.specs.declared.GetReply.the-variants as get
-use Rattle.leaf_node.specs.declared.Cell.{Cell}
 use Rattle.leaf_node.specs.Limits.{PageSize}
 use Rattle.leaf_node.specs.Page.{count, pointer, keyAt}
 use Rattle.leaf_node.specs.Good.{KeysRise, Good}
 use Rattle.leaf_node.specs.Search.{placeFrom, searchOf}
-use Rattle.leaf_node.specs.Reply.{cellAt, getOf}
 use Rattle.leaf_node.specs.Steps.{Laid, Sorted, Readable}
 use Rattle.leaf_node.proofs.Rules.{both}
 use Rattle.leaf_node.proofs.Reading.{pointers-inside}
@@ -162,7 +159,7 @@ told true r = (refl, refl)
 told false r = (refl, refl)
 
 module _ (p : List ℕ) (from : ℕ) (k : List ℕ) (i : ℕ) where
-  found-is : searchOf p from k ≡ Found i → (placeFrom p (count p - from) from k ≡ i) × (i < count p) × (num (keyAt p i) ≡ num k)
+  pub found-is : searchOf p from k ≡ Found i → (placeFrom p (count p - from) from k ≡ i) × (i < count p) × (num (keyAt p i) ≡ num k)
   unfolding searchOf eqKey index hit
   found-is e =
       let r : ℕ = placeFrom p (count p - from) from k in
@@ -186,19 +183,6 @@ module _ (p : List ℕ) (from : ℕ) (k : List ℕ) (i : ℕ) where
           let w : (ltb r (count p) && eqb (num (keyAt p r)) (num k)) ≡ true = rw (z, lt-ltb i (count p) l, eq-eqb (num (keyAt p i)) (num k) q) in
           let n : _≡_ {A = ℕ} 0 1 = cc in
           omega arith
-
--- what `find` answers
-module _ (p : List ℕ) (n : ℕ) (k : List ℕ) (s : Place) (e : s ≡ searchOf p 0 k) (i : ℕ) where
-  pub find-there : Laid p n → s ≡ Found i → Readable p i
-  find-there l q =
-      let f = found-is p 0 k i (sym e ∙ q) in
-      record { inside = omega (arith, l .inside, l .counted); there = f .1; step = l .steps i (omega (arith, l .counted, f .1)) }
-
-  pub find-some : (c : Cell) → s ≡ Found i → c ≡ cellAt p i → get.At c ≡ getOf p (searchOf p 0 k)
-  find-some c q r = rw (← e, q, r)
-
-  pub find-none : s ≡ Absent i → get.Absent ≡ getOf p (searchOf p 0 k)
-  find-none q = rw (← e, q)
 
 module _ (size : ℕ) (p : List ℕ) (s : PageSize size) (g : Good size p) (from : ℕ) (k : List ℕ) (i : ℕ) where
   key-of : Bytes p → i < count p → Key (keyAt p i)

@@ -5,7 +5,7 @@ use mathlib.Core.Bool.{Bool, true, cond, _&&_, _||_}
 use mathlib.Core.List.{List}
 use lib.ListN.{length}
 use lib.Dec.{leb, ltb, eqb}
-use Rattle.refusal.specs.Refusal.{accepted, pageLength, tooManyRecords, badOffsets, longPageValue, keysNotRising, noSuchIndex}
+use Rattle.refusal.specs.Refusal.{accepted, pageLength, tooManyRecords, badOffsets, longPageValue, keysNotRising}
 use Rattle.bit_ops.specs.Key.{num, ltKey}
 use Rattle.leaf_node.specs.Limits.{recordLimit, valueLimit}
 use Rattle.leaf_node.specs.Page.{count, pointer, keyAt, offsetAt, lengthAt}
@@ -72,11 +72,3 @@ pageVerdict size p =
     badOffsets)
     tooManyRecords)
     pageLength
-
--- No. 10, after the page's own refusal: "index not below n"
-unfoldable pub indexVerdict : ℕ → List ℕ → ℕ → ℕ
-indexVerdict size p i = cond (eqb (pageVerdict size p) 0) (cond (ltb i (count p)) accepted noSuchIndex) (pageVerdict size p)
-
--- No. 10, after the page's own refusal: "an empty or too long range", from >= to or to > n
-unfoldable pub rangeVerdict : ℕ → List ℕ → ℕ → ℕ → ℕ
-rangeVerdict size p from to = cond (eqb (pageVerdict size p) 0) (cond (ltb from to && leb to (count p)) accepted noSuchIndex) (pageVerdict size p)

@@ -4,7 +4,7 @@ pub mod Record
 pub mod Page
 pub mod Good
 pub mod Search
-pub mod Reply
+pub mod Cell
 pub mod Build
 pub mod Ticket
 pub mod Fits

@@ -1,4 +1,4 @@
-// Leaf pages: the check of a page, and reading its records.
+// Leaf pages: the check of a page, the parts of its records, and the key search.
 // Ported from nomt/src/beatree/leaf/node.rs of thrumdev/nomt: `LeafNode`. The layout, as it stands over the Rust:
 //
 //     n: u16
@@ -15,7 +15,6 @@ use bit_ops::less;
 use refusal::BAD_OFFSETS;
 use refusal::KEYS_NOT_RISING;
 use refusal::LONG_PAGE_VALUE;
-use refusal::NO_SUCH_INDEX;
 use refusal::PAGE_LENGTH;
 use refusal::TOO_MANY_RECORDS;
 ghost use mathlib.Core.Path.{_≡_};
@@ -23,9 +22,9 @@ ghost use Prim.Native.Nat.{_+_, _-_, _^_, _≤_, _<_};
 ghost use lib.ListN.{length};
 ghost use Rattle.leaf_node.specs.Limits.{PageSize};
 ghost use Rattle.leaf_node.specs.Page.{word, count, pointer, keyAt, numberAt, offsetAt, flagAt, start, lengthAt, valuesSize};
-ghost use Rattle.leaf_node.specs.Good.{offsetsRight, valuesFit, keysRise, pageVerdict, indexVerdict, rangeVerdict};
+ghost use Rattle.leaf_node.specs.Good.{offsetsRight, valuesFit, keysRise, pageVerdict};
 ghost use Rattle.leaf_node.specs.Search.{placeFrom, searchOf};
-ghost use Rattle.leaf_node.specs.Reply.{cellAt, keyReply, valueReply, sizeReply, getOf, getReply, valueNumber, sizeNumber, getNumber};
+ghost use Rattle.leaf_node.specs.Cell.{cellAt};
 ghost use Rattle.leaf_node.specs.Build.{put};
 ghost use Rattle.leaf_node.specs.Steps.{Pointed, Readable, Laid, Sorted};
 
@@ -37,28 +36,6 @@ pub struct Cell {
     pub offset: usize,
     pub len: usize,
     pub flag: bool,
-}
-
-// A refusal, or 0 and a key; the key of a refusal is zeros.
-pub struct KeyReply {
-    pub refusal: u8,
-    pub key: [u8; 32],
-}
-
-pub enum ValueReply {
-    Refused(u8),
-    At(Cell),
-}
-
-pub enum GetReply {
-    Refused(u8),
-    Absent,
-    At(Cell),
-}
-
-pub enum SizeReply {
-    Refused(u8),
-    Bytes(usize),
 }
 
 // Where a key stands among the records: at an index, or absent, with the index at which it would stand.
@@ -230,35 +207,7 @@ pub fn check(page: &[u8]) -> u8
     verdict(page, PAGE_SIZE)
 }
 
-// ---- reading by index
-
-// The refusal of a read of record i, or 0.
-fn index_verdict(page: &[u8], size: usize, i: usize) -> u8
-    requires { ⌜ PageSize size ⌝ }
-    ensures { λ r. ⌜ r ≡ indexVerdict size (now (page .entry)) i ⌝ }
-{
-    let v = verdict(page, size);
-    if v != 0 {
-        return v;
-    }
-    if i < count_of(page) { 0 } else { NO_SUCH_INDEX }
-}
-
-// The refusal of a read of records `from` up to `to`, or 0.
-fn range_verdict(page: &[u8], size: usize, from: usize, to: usize) -> u8
-    requires { ⌜ PageSize size ⌝ }
-    ensures { λ r. ⌜ r ≡ rangeVerdict size (now (page .entry)) from to ⌝ }
-{
-    let v = verdict(page, size);
-    if v != 0 {
-        return v;
-    }
-    if to <= from {
-        return NO_SUCH_INDEX;
-    }
-    let n = count_of(page);
-    if n < to { NO_SUCH_INDEX } else { 0 }
-}
+// ---- parts of bytes
 
 // Copies all of src into dst, from index `at` on.
 pub fn copy_in(src: &[u8], dst: &mut [u8], at: usize)
@@ -272,55 +221,12 @@ pub fn copy_in(src: &[u8], dst: &mut [u8], at: usize)
     }
 }
 
-// Key i.
-pub fn key(page: &[u8], i: usize) -> KeyReply
-    ensures { λ r. ⌜ r ≡ keyReply 4096 (now (page .entry)) i ⌝ }
-{
-    let mut key = [0u8; 32];
-    let v = index_verdict(page, PAGE_SIZE, i);
-    if v != 0 {
-        return KeyReply {
-            refusal: v,
-            key: key,
-        };
-    }
-    copy_in(key_at(page, i), &mut key, 0);
-    KeyReply {
-        refusal: 0,
-        key: key,
-    }
-}
-
-// Value i.
-pub fn value(page: &[u8], i: usize) -> ValueReply
-    ensures { λ r. ⌜ r ≡ valueReply 4096 (now (page .entry)) i ⌝ }
-    ensures { λ r. ⌜ valueNumber r ≡ indexVerdict 4096 (now (page .entry)) i ⌝ }
-{
-    let v = index_verdict(page, PAGE_SIZE, i);
-    if v != 0 {
-        return ValueReply::Refused(v);
-    }
-    ValueReply::At(cell_at(page, i))
-}
-
 // The value bytes of records `from` up to `to`: their values lie one after the other.
 pub fn size_between(page: &[u8], n: usize, from: usize, to: usize) -> usize
     requires { ⌜ (Laid (now page) n) × (from ≤ to) × (to ≤ n) ⌝ }
     ensures { λ r. ⌜ (r ≡ valuesSize (now (page .entry)) from to) × (r ≤ length (now (page .entry))) ⌝ }
 {
     start_at(page, n, to) - start_at(page, n, from)
-}
-
-// The value bytes of a nonempty range of records.
-pub fn values_size(page: &[u8], from: usize, to: usize) -> SizeReply
-    ensures { λ r. ⌜ r ≡ sizeReply 4096 (now (page .entry)) from to ⌝ }
-    ensures { λ r. ⌜ sizeNumber r ≡ rangeVerdict 4096 (now (page .entry)) from to ⌝ }
-{
-    let v = range_verdict(page, PAGE_SIZE, from, to);
-    if v != 0 {
-        return SizeReply::Refused(v);
-    }
-    SizeReply::Bytes(size_between(page, count_of(page), from, to))
 }
 
 // ---- the key search
@@ -357,28 +263,4 @@ pub fn search(page: &[u8], n: usize, from: usize, key: &[u8]) -> Place
         return Place::Absent(i);
     }
     Place::Found(i)
-}
-
-// The value of a key in a page with n records.
-fn find(page: &[u8], n: usize, key: &[u8]) -> GetReply
-    requires { ⌜ (Laid (now page) n) × (Sorted (now page) n) × (length (now key) ≡ 32) ⌝ }
-    ensures { λ r. ⌜ r ≡ getOf (now (page .entry)) (searchOf (now (page .entry)) 0 (now (key .entry))) ⌝ }
-{
-    let place = search(page, n, 0, key);
-    match place {
-        Place::Found(i) => GetReply::At(cell_at(page, i)),
-        Place::Absent(_) => GetReply::Absent,
-    }
-}
-
-// The value of a key.
-pub fn get(page: &[u8], key: &[u8; 32]) -> GetReply
-    ensures { λ r. ⌜ r ≡ getReply 4096 (now (page .entry)) (now (key .entry)) ⌝ }
-    ensures { λ r. ⌜ getNumber r ≡ pageVerdict 4096 (now (page .entry)) ⌝ }
-{
-    let v = verdict(page, PAGE_SIZE);
-    if v != 0 {
-        return GetReply::Refused(v);
-    }
-    find(page, count_of(page), key)
 }

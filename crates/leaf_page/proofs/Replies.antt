@@ -2,12 +2,12 @@
 use mathlib.Core.Path.{_≡_}
 use Prim.Native.Nat.{ℕ}
 use Rattle.leaf_node.specs.declared.Cell.{Cell}
-use Rattle.leaf_node.specs.declared.ValueReply.{ValueReply}
-use Rattle.leaf_node.specs.declared.ValueReply.the-variants as value
-use Rattle.leaf_node.specs.declared.GetReply.{GetReply}
-use Rattle.leaf_node.specs.declared.GetReply.the-variants as get
-use Rattle.leaf_node.specs.declared.SizeReply.{SizeReply}
-use Rattle.leaf_node.specs.declared.SizeReply.the-variants as sizes
+use Rattle.leaf_read.specs.declared.ValueReply.{ValueReply}
+use Rattle.leaf_read.specs.declared.ValueReply.the-variants as value
+use Rattle.leaf_read.specs.declared.GetReply.{GetReply}
+use Rattle.leaf_read.specs.declared.GetReply.the-variants as get
+use Rattle.leaf_read.specs.declared.SizeReply.{SizeReply}
+use Rattle.leaf_read.specs.declared.SizeReply.the-variants as sizes
 use Rattle.leaf_page.specs.declared.LeafValue.{LeafValue}
 use Rattle.leaf_page.specs.Reply.{refusedValue, foundValue, valueOut, getOut, sizeOut}
 

@@ -1,13 +1,13 @@
 // The page calls with replies as structs of numbers, since an enum can't cross to C: document 01's number, and the values of each case. A
 // refusal has its number and zeros in every other field.
 use leaf_node::Cell;
-use leaf_node::GetReply;
-use leaf_node::KeyReply;
-use leaf_node::SizeReply;
-use leaf_node::ValueReply;
+use leaf_read::GetReply;
+use leaf_read::KeyReply;
+use leaf_read::SizeReply;
+use leaf_read::ValueReply;
 ghost use mathlib.Core.Path.{_≡_};
 ghost use mathlib.Core.Bool.{cond};
-ghost use Rattle.leaf_node.specs.Reply.{keyReply, valueReply, getReply, sizeReply};
+ghost use Rattle.leaf_read.specs.Reply.{keyReply, valueReply, getReply, sizeReply};
 ghost use Rattle.leaf_page.specs.Reply.{keyOut, refusedValue, foundValue, valueOut, getOut, sizeOut};
 
 #[repr(C)]
@@ -46,7 +46,7 @@ fn key_out(reply: KeyReply) -> LeafKey
 pub fn key(page: &[u8], i: usize) -> LeafKey
     ensures { λ r. ⌜ r ≡ keyOut (keyReply 4096 (now (page .entry)) i) ⌝ }
 {
-    key_out(leaf_node::key(page, i))
+    key_out(leaf_read::key(page, i))
 }
 
 // A flag as a number.
@@ -93,7 +93,7 @@ fn value_out(reply: ValueReply) -> LeafValue
 pub fn value(page: &[u8], i: usize) -> LeafValue
     ensures { λ r. ⌜ r ≡ valueOut (valueReply 4096 (now (page .entry)) i) ⌝ }
 {
-    value_out(leaf_node::value(page, i))
+    value_out(leaf_read::value(page, i))
 }
 
 fn get_out(reply: GetReply) -> LeafValue
@@ -116,7 +116,7 @@ fn get_out(reply: GetReply) -> LeafValue
 pub fn get(page: &[u8], key: &[u8; 32]) -> LeafValue
     ensures { λ r. ⌜ r ≡ getOut (getReply 4096 (now (page .entry)) (now (key .entry))) ⌝ }
 {
-    get_out(leaf_node::get(page, key))
+    get_out(leaf_read::get(page, key))
 }
 
 fn size_out(reply: SizeReply) -> LeafSize
@@ -138,5 +138,5 @@ fn size_out(reply: SizeReply) -> LeafSize
 pub fn values_size(page: &[u8], from: usize, to: usize) -> LeafSize
     ensures { λ r. ⌜ r ≡ sizeOut (sizeReply 4096 (now (page .entry)) from to) ⌝ }
 {
-    size_out(leaf_node::values_size(page, from, to))
+    size_out(leaf_read::values_size(page, from, to))
 }

@@ -29,7 +29,7 @@ ghost use mathlib.Core.Bool.{cond};
 ghost use lib.ListN.{length};
 ghost use Rattle.bit_ops.specs.Separate.{sharedBits, separateVerdict, separateLeaves};
 ghost use Rattle.leaf_node.specs.Good.{pageVerdict};
-ghost use Rattle.leaf_node.specs.Reply.{keyReply, valueReply, getReply, sizeReply};
+ghost use Rattle.leaf_read.specs.Reply.{keyReply, valueReply, getReply, sizeReply};
 ghost use Rattle.leaf_page.specs.Reply.{keyOut, valueOut, getOut, sizeOut};
 ghost use Rattle.leaf_builder.specs.Rebuild.{rebuildVerdict, rebuildLeaves};
 ghost use Rattle.leaf_work.specs.Tests.{isSet};

@@ -1,9 +1,9 @@
--- `leaf_node::key` meets its contract: the key, zeros where the read is refused.
+-- `leaf_read::key` meets its contract: the key, zeros where the read is refused.
 -- Assumes nothing.
 use borrow.Author.Needs.{needs}
-use Rattle.leaf_node.proofs.key.Statement.{statement}
-use Rattle.leaf_node.proofs.key.Tie as tie
-use Rattle.leaf_node.proofs.Reading.{index-inside, key-refused, key-given}
+use Rattle.leaf_read.proofs.key.Statement.{statement}
+use Rattle.leaf_read.proofs.key.Tie as tie
+use Rattle.leaf_read.proofs.Answers.{index-inside, key-refused, key-given}
 
 index-verdict-requires : tie.Need-index-verdict-requires
 index-verdict-requires c κs = search needs

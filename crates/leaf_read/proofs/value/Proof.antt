@@ -1,9 +1,9 @@
--- `leaf_node::value` meets its contract.
+-- `leaf_read::value` meets its contract.
 -- Assumes nothing.
 use borrow.Author.Needs.{needs}
-use Rattle.leaf_node.proofs.value.Statement.{statement}
-use Rattle.leaf_node.proofs.value.Tie as tie
-use Rattle.leaf_node.proofs.Reading.{index-readable, value-refused, value-given, accepted-number}
+use Rattle.leaf_read.proofs.value.Statement.{statement}
+use Rattle.leaf_read.proofs.value.Tie as tie
+use Rattle.leaf_read.proofs.Answers.{index-readable, value-refused, value-given, accepted-number}
 
 index-verdict-requires : tie.Need-index-verdict-requires
 index-verdict-requires c κs = search needs

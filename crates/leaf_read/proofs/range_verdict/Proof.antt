@@ -1,9 +1,10 @@
--- `leaf_node::range_verdict` meets its contract.
+-- `leaf_read::range_verdict` meets its contract.
 -- Assumes nothing.
 use borrow.Author.Needs.{needs}
-use Rattle.leaf_node.proofs.range_verdict.Statement.{statement}
-use Rattle.leaf_node.proofs.range_verdict.Tie as tie
-use Rattle.leaf_node.proofs.Reading.{checked-long, range-page, range-empty, range-long, range-there}
+use Rattle.leaf_read.proofs.range_verdict.Statement.{statement}
+use Rattle.leaf_read.proofs.range_verdict.Tie as tie
+use Rattle.leaf_node.proofs.Reading.{checked-long}
+use Rattle.leaf_read.proofs.Answers.{range-page, range-empty, range-long, range-there}
 
 verdict-requires : tie.Need-verdict-requires
 verdict-requires c κs = search needs

@@ -1,27 +1,31 @@
 -- Document 01, "The three modules", No. 2: what the calls that read a page answer. A refused call answers its number alone.
 use Prim.Native.Nat.{ℕ}
-use mathlib.Core.Bool.{cond}
+use mathlib.Core.Bool.{cond, _&&_}
 use mathlib.Core.List.{List}
-use lib.Dec.{eqb}
+use lib.Dec.{eqb, ltb, leb}
 use lib.ListN.{replicate}
-use Rattle.refusal.specs.Refusal.{accepted}
-use Rattle.leaf_node.specs.declared.Cell.{Cell}
+use Rattle.refusal.specs.Refusal.{accepted, noSuchIndex}
 use Rattle.leaf_node.specs.declared.Place.{Place}
 use Rattle.leaf_node.specs.declared.Place.the-variants.{Found, Absent}
-use Rattle.leaf_node.specs.declared.KeyReply.{KeyReply}
-use Rattle.leaf_node.specs.declared.ValueReply.{ValueReply}
-use Rattle.leaf_node.specs.declared.ValueReply.the-variants as value
-use Rattle.leaf_node.specs.declared.GetReply.{GetReply}
-use Rattle.leaf_node.specs.declared.GetReply.the-variants as get
-use Rattle.leaf_node.specs.declared.SizeReply.{SizeReply}
-use Rattle.leaf_node.specs.declared.SizeReply.the-variants as sizes
-use Rattle.leaf_node.specs.Page.{start, lengthAt, flagAt, keyAt, valuesSize}
-use Rattle.leaf_node.specs.Good.{pageVerdict, indexVerdict, rangeVerdict}
+use Rattle.leaf_node.specs.Page.{count, keyAt, valuesSize}
+use Rattle.leaf_node.specs.Good.{pageVerdict}
 use Rattle.leaf_node.specs.Search.{searchOf}
+use Rattle.leaf_node.specs.Cell.{cellAt}
+use Rattle.leaf_read.specs.declared.KeyReply.{KeyReply}
+use Rattle.leaf_read.specs.declared.ValueReply.{ValueReply}
+use Rattle.leaf_read.specs.declared.ValueReply.the-variants as value
+use Rattle.leaf_read.specs.declared.GetReply.{GetReply}
+use Rattle.leaf_read.specs.declared.GetReply.the-variants as get
+use Rattle.leaf_read.specs.declared.SizeReply.{SizeReply}
+use Rattle.leaf_read.specs.declared.SizeReply.the-variants as sizes
 
--- "a value as offset, length and flag"
-unfoldable pub cellAt : List ℕ → ℕ → Cell
-cellAt p i = record { offset = start p i; len = lengthAt p i; flag = flagAt p i }
+-- No. 10, after the page's own refusal: "index not below n"
+unfoldable pub indexVerdict : ℕ → List ℕ → ℕ → ℕ
+indexVerdict size p i = cond (eqb (pageVerdict size p) 0) (cond (ltb i (count p)) accepted noSuchIndex) (pageVerdict size p)
+
+-- No. 10, after the page's own refusal: "an empty or too long range", from >= to or to > n
+unfoldable pub rangeVerdict : ℕ → List ℕ → ℕ → ℕ → ℕ
+rangeVerdict size p from to = cond (eqb (pageVerdict size p) 0) (cond (ltb from to && leb to (count p)) accepted noSuchIndex) (pageVerdict size p)
 
 -- "reading a key"
 unfoldable pub keyReply : ℕ → List ℕ → ℕ → KeyReply

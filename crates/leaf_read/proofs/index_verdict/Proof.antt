@@ -1,9 +1,10 @@
--- `leaf_node::index_verdict` meets its contract.
+-- `leaf_read::index_verdict` meets its contract.
 -- Assumes nothing.
 use borrow.Author.Needs.{needs}
-use Rattle.leaf_node.proofs.index_verdict.Statement.{statement}
-use Rattle.leaf_node.proofs.index_verdict.Tie as tie
-use Rattle.leaf_node.proofs.Reading.{checked-long, index-page, index-none, index-some}
+use Rattle.leaf_read.proofs.index_verdict.Statement.{statement}
+use Rattle.leaf_read.proofs.index_verdict.Tie as tie
+use Rattle.leaf_node.proofs.Reading.{checked-long}
+use Rattle.leaf_read.proofs.Answers.{index-page, index-none, index-some}
 
 verdict-requires : tie.Need-verdict-requires
 verdict-requires c κs = search needs

@@ -1,9 +1,9 @@
--- `leaf_node::values_size` meets its contract.
+-- `leaf_read::values_size` meets its contract.
 -- Assumes nothing.
 use borrow.Author.Needs.{needs}
-use Rattle.leaf_node.proofs.values_size.Statement.{statement}
-use Rattle.leaf_node.proofs.values_size.Tie as tie
-use Rattle.leaf_node.proofs.Reading.{size-refused, size-given, range-long-enough, range-laid, range-order, range-end, accepted-number}
+use Rattle.leaf_read.proofs.values_size.Statement.{statement}
+use Rattle.leaf_read.proofs.values_size.Tie as tie
+use Rattle.leaf_read.proofs.Answers.{size-refused, size-given, range-long-enough, range-laid, range-order, range-end, accepted-number}
 
 range-verdict-requires : tie.Need-range-verdict-requires
 range-verdict-requires c κs = search needs

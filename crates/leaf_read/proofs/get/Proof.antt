@@ -1,9 +1,10 @@
--- `leaf_node::get` meets its contract.
+-- `leaf_read::get` meets its contract.
 -- Assumes nothing.
 use borrow.Author.Needs.{needs}
-use Rattle.leaf_node.proofs.get.Statement.{statement}
-use Rattle.leaf_node.proofs.get.Tie as tie
-use Rattle.leaf_node.proofs.Reading.{checked-long, checked-laid, checked-rising, get-refused, get-given, get-number}
+use Rattle.leaf_read.proofs.get.Statement.{statement}
+use Rattle.leaf_read.proofs.get.Tie as tie
+use Rattle.leaf_node.proofs.Reading.{checked-long, checked-laid, checked-rising}
+use Rattle.leaf_read.proofs.Answers.{get-refused, get-given, get-number}
 
 verdict-requires : tie.Need-verdict-requires
 verdict-requires c κs = search needs

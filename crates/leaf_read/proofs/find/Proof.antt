@@ -1,9 +1,9 @@
--- `leaf_node::find` meets its contract.
+-- `leaf_read::find` meets its contract.
 -- Assumes nothing.
 use borrow.Author.Needs.{needs}
-use Rattle.leaf_node.proofs.find.Statement.{statement}
-use Rattle.leaf_node.proofs.find.Tie as tie
-use Rattle.leaf_node.proofs.Searches.{find-there, find-some, find-none}
+use Rattle.leaf_read.proofs.find.Statement.{statement}
+use Rattle.leaf_read.proofs.find.Tie as tie
+use Rattle.leaf_read.proofs.Answers.{find-there, find-some, find-none}
 
 search-requires : tie.Need-search-requires
 search-requires c κs = search needs

@@ -1,0 +1,2 @@
+-- Laws on plain values, which serve the functions' proofs.
+pub mod Answers

@@ -1,0 +1,2 @@
+-- What the calls that read a page answer.
+pub mod Reply
