@@ -1,5 +1,5 @@
--- Computed examples on pages of 200 bytes, where all limits are small: a merge and a cutoff removal through the calls, and for each clause of soundness
--- a work that breaks it alone. Assumes nothing.
+-- Computed examples on pages of 200 bytes, where all limits are small: a merge and a cutoff removal through the calls; for each clause of soundness
+-- a work that breaks it alone; and a digest rule by rule, so that a wrong definition fails in the part that is about it. Assumes nothing.
 use mathlib.Core.Path.{_≡_, refl}
 use mathlib.Core.Bool.{true, false}
 use mathlib.Core.Option.{none, some}
@@ -15,8 +15,8 @@ use Rattle.leaf_node.specs.Page.{word, count, keyAt, numberAt, flagAt, offsetAt
 use Rattle.leaf_node.specs.Good.{allBelow, offsetStep, offsetInside, offsetsRight, valueFits, valuesFit, keyStep, keysRise, pageVerdict}
 use Rattle.leaf_node.specs.Search.{placeFrom}
 use Rattle.leaf_node.specs.Build.{le16, tagged, pointers, build}
-use Rattle.leaf_model.specs.Cut.{targetOf, cut, cutAll}
-use Rattle.leaf_model.specs.Work.{zeroKey, plan}
+use Rattle.leaf_model.specs.Cut.{Cut, targetOf, cut, cutAll}
+use Rattle.leaf_model.specs.Work.{Leaf, zeroKey, plan, leavesBy}
 use Rattle.leaf_work.specs.declared.Work.{Work}
 use Rattle.leaf_work.specs.declared.Entry.{Entry}
 use Rattle.leaf_work.specs.Lent.{blank, insertAt, chunkOf}
@@ -25,7 +25,7 @@ use Rattle.leaf_work.specs.Sound.{sound}
 use Rattle.leaf_work.specs.TakingUp.{stop, drops}
 use Rattle.leaf_work.specs.Verdict.{with-base, with-none, baseVerdict, keysVerdict, lentVerdict, openVerdict, ingestVerdict, digestVerdict, nextBaseVerdict, removeVerdict}
 use Rattle.leaf_work.specs.Outcome.{Quiet, IngestRefused, Opened, openWork, openOf, Ingested, ingestOn, ingestOf, Accepted, Refused, nextBaseOf, removeCutoffOf}
-use Rattle.leaf_work.specs.Digest.{Finished, Merge, Digested, digestOn, digestOf}
+use Rattle.leaf_work.specs.Digest.{Finished, Merge, Digested, pagesOf, digestWork, digestDone, digestOn, digestOf}
 
 abbrev size : ℕ
 size = 200
@@ -227,4 +227,70 @@ each-clause-of-soundness-refuses-a-work = record {
   floor-of-a-base = refl;
   floor-when-waiting = refl;
   absent-keys = refl;
+}
+
+-- ---- a digest, rule by rule
+
+-- an open work after a merge: its override is zero, its latest base starts at the key 50, its cutoff is the key 70
+abbrev after-merge : Work
+after-merge = work 1 1 0 0 0 0 0 (keyOf 50) 1 (keyOf 70) 1 z (keyOf 50) 0 z
+
+-- two leaves are cut, and nothing is kept
+abbrev two-leaves : Cut
+two-leaves = record { leaves = (recordOf 10 5 ∷ []) ∷ (recordOf 60 30 ∷ []) ∷ []; left = [] }
+
+abbrev leaves-of-it : List Leaf
+leaves-of-it = leavesBy z (some (keyOf 70)) two-leaves
+
+abbrev gives-two : Digested
+gives-two = digestDone size after-merge list store (replicate 500 9) (replicate 200 9) two-leaves
+
+-- two small records are pending: they wait for another merge
+abbrev waits-again : Digested
+waits-again = digestOn size after-merge list store (replicate 200 9) (replicate 65 9) (recordOf 10 5 ∷ recordOf 20 6 ∷ []) 0
+
+-- it answers how many leaves it gave
+pub record Count : Type 0 where
+  pub two-are-given : gives-two .reply ≡ Finished 2
+
+digest-counts-its-leaves : Count
+digest-counts-its-leaves = record { two-are-given = refl }
+
+-- each page holds its leaf's records
+pub record Pages : Type 0 where
+  pub page-by-page : pagesOf size leaves-of-it ≡ build size (recordOf 10 5 ∷ []) ++ build size (recordOf 60 30 ∷ [])
+
+pages-hold-the-leaves : Pages
+unfolding values total le16 pointers build
+pages-hold-the-leaves = record { page-by-page = refl }
+
+-- the pages are in the area, and its later bytes are as they were
+pub record Area : Type 0 where
+  pub pages-then-nines : gives-two .area ≡ pagesOf size leaves-of-it ++ replicate 100 9
+
+area-holds-the-pages : Area
+unfolding values total le16 pointers build
+area-holds-the-pages = record { pages-then-nines = refl }
+
+-- a later digest doesn't only pass the turn
+pub record Again : Type 0 where
+  pub it-asks-again : waits-again .reply ≡ Merge 0 (keyOf 70)
+  pub it-keeps-both : waits-again .work .used ≡ 2
+
+later-digest-waits-too : Again
+unfolding bodyLimit mergeBelow bulkAbove bulkTarget values total targetOf cut cutAll plan digestVerdict digestOn
+later-digest-waits-too = record {
+  it-asks-again = refl;
+  it-keeps-both = refl;
+}
+
+-- what it keeps raises the floor to the cutoff; where nothing is kept, it stays
+pub record Floor : Type 0 where
+  pub records-are-kept : digestWork after-merge (record { leaves = []; left = recordOf 10 5 ∷ [] }) .floor ≡ keyOf 70
+  pub nothing-is-kept : digestWork after-merge two-leaves .floor ≡ keyOf 50
+
+digest-raises-the-floor : Floor
+digest-raises-the-floor = record {
+  records-are-kept = refl;
+  nothing-is-kept = refl;
 }
