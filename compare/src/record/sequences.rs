@@ -19,8 +19,8 @@
 //! | 77 to 108 | digest: the cutoff for which it waits |
 //! | 109 to 4204 | ingest: the value; page: its bytes; leaf: its page, the gap cleared |
 //!
-//! A page is lent to every call from there on, as base page, or as the new one of an opening or a next base. A leaf is the next
-//! that the last digest before it gave; its ticket stands in bytes 1 to 65. A call on a work is lent what the last accepted one left.
+//! A page is lent to every call from there on, as base page, or as the new one of an opening or a next base. The leaves of
+//! a digest stand right behind it, in their order, each with its ticket in bytes 1 to 65. A call on a work is lent what the last accepted one left.
 
 mod picked;
 

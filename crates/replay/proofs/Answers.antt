@@ -39,7 +39,7 @@ module _ (v page : List ℕ) where
   pub the-page-is-lent : 4205 ≤ length v → 4096 ≤ length page → (p : List ℕ) → p ≡ put page 0 (take 4096 (drop 109 v)) → p ≡ pageLent v page
   the-page-is-lent h k p e = rw (le-leb 4205 (length v) h, le-leb 4096 (length page) k) e
 
--- the page and the ticket of a leaf
-pub the-leaf-is-counted : (v area tickets : List ℕ) (leaf ticket n : ℕ) (a b : Bool) (before after : Score) → n ≡ word v 67 → a ≡ hasPart v 109 area leaf 4096
-    → b ≡ hasPart v 1 tickets ticket n → Counted (a && b) before after → Counted (sameLeaf v area leaf tickets ticket) before after
-the-leaf-is-counted v area tickets leaf ticket n a b before after e f g c = rw (← e, ← f, ← g) c
+-- the record of a leaf, its page and its ticket
+pub the-leaf-is-counted : (v area tickets : List ℕ) (leaf ticket n kind : ℕ) (a b : Bool) (before after : Score) → n ≡ word v 67 → kind ≡ getD v 0 0 → a ≡ hasPart v 109 area leaf 4096
+    → b ≡ hasPart v 1 tickets ticket n → Counted (eqb kind 6 && (a && b)) before after → Counted (sameLeaf v area leaf tickets ticket) before after
+the-leaf-is-counted v area tickets leaf ticket n kind a b before after e k f g c = rw (← e, ← k, ← f, ← g) c

@@ -29,6 +29,6 @@ sameDigest v reply =
 abbrev pub onlyGiven : List ℕ → List ℕ → List ℕ → Bool
 onlyGiven v area tickets = every isHeld (drop (4096 * word v 73) area) && every isHeld (drop (word v 75) tickets)
 
--- a leaf that begins there: its page, and its ticket
+-- a leaf that begins there: its record is one of a leaf, with its page and its ticket
 abbrev pub sameLeaf : List ℕ → List ℕ → ℕ → List ℕ → ℕ → Bool
-sameLeaf v area leaf tickets ticket = hasPart v 109 area leaf 4096 && hasPart v 1 tickets ticket (word v 67)
+sameLeaf v area leaf tickets ticket = eqb (getD v 0 0) 6 && (hasPart v 109 area leaf 4096 && hasPart v 1 tickets ticket (word v 67))

@@ -1,7 +1,7 @@
 // Bytes of a record. Past its end they are zero, so that no length must be shown here.
 ghost use mathlib.Core.Path.{_≡_};
 ghost use Prim.Native.Nat.{_<_};
-ghost use lib.ListN.{length, getD, drop, replicate};
+ghost use lib.ListN.{length, getD, drop};
 ghost use Rattle.leaf_node.specs.Page.{word};
 ghost use Rattle.leaf_work.specs.Tests.{every, sameBytes};
 ghost use Rattle.replay.specs.Parts.{keyFrom, hasAt, hasPart, isHeld};
@@ -95,18 +95,7 @@ pub(crate) fn same_part(s: &[u8], at: usize, other: &[u8], from: usize, n: usize
 }
 
 // What lent buffers hold before a call.
-const HELD: u8 = 0x5a;
-
-pub(crate) fn hold(s: &mut [u8])
-    ensures { λ _. ⌜ now (s .exit) ≡ replicate (length (now (s .entry))) 0x5a ⌝ }
-    ensures { λ _. ⌜ length (now (s .exit)) ≡ length (now (s .entry)) ⌝ }
-{
-    let mut i = 0;
-    while i < s.len() {
-        s[i] = HELD;
-        i += 1;
-    }
-}
+pub(crate) const HELD: u8 = 0x5a;
 
 // Whether a buffer still holds that from `from` on.
 pub(crate) fn held(s: &[u8], from: usize) -> bool

@@ -12,7 +12,8 @@ fn passes(v: &[u8; 99]) -> bool {
     let mut out = [0u8; 32];
     let reply = bit_ops::separate(&a, &b, &mut out);
     let shared = bit_ops::prefix_len(&a, &b);
-    reply == byte(v, 64) && shared == number(v, 65) && same_key(v, 67, &out)
+    let said = (reply == byte(v, 64)) & (shared == number(v, 65));
+    said & same_key(v, 67, &out)
 }
 
 // The next record of the file.

@@ -7,42 +7,51 @@ use crate::bytes::same;
 use crate::bytes::same_key;
 use crate::score::Score;
 use leaf_page::LeafValue;
+ghost use Prim.Native.Nat.{_≤_};
 
 const QUESTIONS: usize = 24;
 
 // Whether a value's reply is the recorded one.
-fn same_value(v: &[u8], q: usize, r: LeafValue) -> bool {
-    if 8000 < q {
-        return false;
-    }
-    r.refusal == byte(v, q + 37)
-        && r.absent == byte(v, q + 38)
-        && r.flag == byte(v, q + 39)
-        && r.offset == number(v, q + 40)
-        && r.len == number(v, q + 42)
+fn same_value(v: &[u8], q: usize, r: LeafValue) -> bool
+    requires { ⌜ q ≤ 8000 ⌝ }
+{
+    let said = (r.refusal == byte(v, q + 37)) & (r.absent == byte(v, q + 38));
+    let place = (r.offset == number(v, q + 40)) & (r.len == number(v, q + 42));
+    said & ((r.flag == byte(v, q + 39)) & place)
+}
+
+fn same_key_read(page: &[u8], v: &[u8], q: usize) -> bool
+    requires { ⌜ q ≤ 8000 ⌝ }
+{
+    let r = leaf_page::key(page, number(v, q + 1));
+    let key = r.key;
+    (r.refusal == byte(v, q + 37)) & same_key(v, q + 44, &key)
+}
+
+fn same_size(page: &[u8], v: &[u8], q: usize) -> bool
+    requires { ⌜ q ≤ 8000 ⌝ }
+{
+    let r = leaf_page::values_size(page, number(v, q + 1), number(v, q + 3));
+    (r.refusal == byte(v, q + 37)) & (r.bytes == number(v, q + 42))
+}
+
+fn same_sought(page: &[u8], v: &[u8], q: usize) -> bool
+    requires { ⌜ q ≤ 8000 ⌝ }
+{
+    let sought = key(v, q + 5);
+    same_value(v, q, leaf_page::get(page, &sought))
 }
 
 // Asks the question that stands at byte q.
-fn passes(page: &[u8], v: &[u8], q: usize) -> bool {
-    if 8000 < q {
-        return false;
+fn passes(page: &[u8], v: &[u8], q: usize) -> bool
+    requires { ⌜ q ≤ 8000 ⌝ }
+{
+    match byte(v, q) {
+        0 => same_key_read(page, v, q),
+        1 => same_value(v, q, leaf_page::value(page, number(v, q + 1))),
+        2 => same_size(page, v, q),
+        _ => same_sought(page, v, q),
     }
-    let call = byte(v, q);
-    let from = number(v, q + 1);
-    let to = number(v, q + 3);
-    if call == 0 {
-        let r = leaf_page::key(page, from);
-        return r.refusal == byte(v, q + 37) && same_key(v, q + 44, &r.key);
-    }
-    if call == 1 {
-        return same_value(v, q, leaf_page::value(page, from));
-    }
-    if call == 2 {
-        let r = leaf_page::values_size(page, from, to);
-        return r.refusal == byte(v, q + 37) && r.bytes == number(v, q + 42);
-    }
-    let sought = key(v, q + 5);
-    same_value(v, q, leaf_page::get(page, &sought))
 }
 
 fn ask_all(page: &[u8], v: &[u8], t: Score) -> Score {
@@ -66,6 +75,16 @@ pub(crate) fn next(fd: i32, t: Score) -> Score {
     ask_all(&whole[0..4096], whole, t)
 }
 
+// Whether the page that is built of the record's range is the recorded one.
+fn same_build(v: &[u8], page: &[u8]) -> bool {
+    let from = number(v, 4096);
+    let mid = number(v, 4098);
+    let to = number(v, 4100);
+    let mut out = [0xeeu8; 4096];
+    let reply = leaf_builder::rebuild(page, from, mid, to, &mut out);
+    (reply == 0) & same(v, 4102, &out)
+}
+
 // The next record of a page that is built.
 pub(crate) fn next_build(fd: i32, t: Score) -> Score {
     let mut v = [0u8; 8198];
@@ -74,10 +93,5 @@ pub(crate) fn next_build(fd: i32, t: Score) -> Score {
         return t.end(n);
     }
     let whole = &v[..];
-    let mut out = [0xeeu8; 4096];
-    let from = number(whole, 4096);
-    let mid = number(whole, 4098);
-    let to = number(whole, 4100);
-    let reply = leaf_builder::rebuild(&whole[0..4096], from, mid, to, &mut out);
-    t.count(reply == 0 && same(whole, 4102, &out))
+    t.count(same_build(whole, &whole[0..4096]))
 }

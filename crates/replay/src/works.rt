@@ -1,16 +1,19 @@
-// Calls on a work against records of 4,205 bytes, in the order in which they stand: a page that is lent from now on, a call with its
-// answer, or a leaf that the digest before it gave. compare/src/record/sequences.rs has the table of its bytes.
+// Calls on a work against records of 4,205 bytes, in the order in which they stand: a page that is lent from now on, or a call with its
+// answer, and behind a digest the leaves that it gave. compare/src/record/sequences.rs has the table of its bytes.
+use crate::bytes::HELD;
 use crate::bytes::byte;
 use crate::bytes::held;
-use crate::bytes::hold;
 use crate::bytes::key;
 use crate::bytes::number;
 use crate::bytes::same_key;
 use crate::bytes::same_part;
 use crate::score::Score;
-use leaf_flat::LeafDigested;
+use leaf_digest::Digested;
 use leaf_take::LeafReport;
+use leaf_take::change_of;
+use leaf_take::report_out;
 use leaf_within::LeafGave;
+use leaf_within::gave_out;
 use leaf_work::Work;
 ghost use mathlib.Core.Path.{_≡_};
 ghost use mathlib.Core.Bool.{false, cond};
@@ -23,6 +26,14 @@ ghost use Rattle.replay.specs.Counts.{Counted};
 const RECORD: usize = 4205;
 
 const PAGE: usize = 4096;
+
+// What is lent to a digest at most.
+const AREA: usize = 20480;
+
+const TICKET_BYTES: usize = 325;
+
+// The kind of a leaf's record.
+const LEAF: u8 = 6;
 
 // Where a record has its parts.
 const FIRST: usize = 1;
@@ -49,12 +60,9 @@ const WAIT: usize = 77;
 
 const BODY: usize = 109;
 
-// What goes on from record to record beside what is lent: the work record, where the last digest's next leaf and its ticket begin, and
-// the counts.
+// What goes on from record to record beside what is lent: the work record and the counts.
 struct Run {
     work: Work,
-    leaf: usize,
-    ticket: usize,
     score: Score,
 }
 
@@ -82,8 +90,6 @@ impl Run {
                 taken: 0,
                 last: none,
             },
-            leaf: 0,
-            ticket: 0,
             score: t,
         }
     }
@@ -143,11 +149,11 @@ fn open(
 ) -> Run {
     let separator = key(v, KEY);
     let cutoff = key(v, CUTOFF);
-    let after = leaf_flat::open(
-        byte(v, FIRST),
+    let after = leaf_open::open(
+        byte(v, FIRST) != 0,
         page,
         &separator,
-        byte(v, SECOND),
+        byte(v, SECOND) != 0,
         &cutoff,
         run.work,
         rows,
@@ -177,19 +183,34 @@ fn ingest(
     if v.len() < end {
         return run.count(false);
     }
-    let after = leaf_flat::ingest(
-        run.work,
-        rows,
-        keys,
-        store,
-        page,
-        &taken,
-        byte(v, FIRST),
-        byte(v, SECOND),
-        &v[BODY..end],
-    );
-    run.answered(after.work, same_report(v, after.reply))
+    let change = change_of(byte(v, FIRST), byte(v, SECOND));
+    let value = &v[BODY..end];
+    let after = leaf_ingest::ingest(run.work, rows, keys, store, page, &taken, change, value);
+    let reply = after.reply;
+    run.answered(after.work, same_report(v, report_out(reply)))
 }
+
+fn next_base(
+    v: &[u8],
+    run: Run,
+    rows: &[[usize; 5]],
+    keys: &[[u8; 32]],
+    store: &[u8],
+    page: &[u8],
+) -> Run {
+    let separator = key(v, KEY);
+    let cutoff = key(v, CUTOFF);
+    let cut = byte(v, SECOND) != 0;
+    let after = leaf_again::next_base(run.work, rows, keys, store, page, &separator, cut, &cutoff);
+    run.answered(after.work, after.refusal == byte(v, REFUSAL))
+}
+
+fn remove_cutoff(v: &[u8], run: Run, rows: &[[usize; 5]], keys: &[[u8; 32]], store: &[u8]) -> Run {
+    let after = leaf_again::remove_cutoff(run.work, rows, keys, store);
+    run.answered(after.work, after.refusal == byte(v, REFUSAL))
+}
+
+// ---- a digest, and the leaves that it gave
 
 fn same_digest(v: &[u8], reply: LeafGave) -> bool
     ensures { λ r. ⌜ r ≡ sameDigest (now (v .entry)) reply ⌝ }
@@ -206,7 +227,87 @@ fn only_given(v: &[u8], area: &[u8], tickets: &[u8]) -> bool
     held(area, PAGE * number(v, NUMBER)) & held(tickets, number(v, SIZE))
 }
 
-// A digest that is lent the first bytes of both buffers, which hold the same in every byte.
+// The place behind n bytes. One that is behind every buffer stays, so that no sum is too great.
+fn behind(at: usize, n: usize) -> usize
+    requires { ⌜ n < 65536 ⌝ }
+    ensures { λ r. ⌜ r ≡ cond (ltb at 65536) (at + n) at ⌝ }
+{
+    if at < 65536 { at + n } else { at }
+}
+
+// Where the next leaf of a digest and its ticket begin, and the counts.
+struct Given {
+    leaf: usize,
+    ticket: usize,
+    score: Score,
+}
+
+// The record of the next leaf, and of its ticket.
+fn leaf(v: &[u8], given: Given, area: &[u8], tickets: &[u8]) -> Given
+    ensures { λ r. ⌜ Counted (sameLeaf (now (v .entry)) (now (area .entry)) (given .leaf) (now (tickets .entry)) (given .ticket)) (given .score) (r .score) ⌝ }
+{
+    let n = number(v, LENGTH);
+    let page_right = same_part(v, BODY, area, given.leaf, PAGE);
+    let ticket_right = same_part(v, FIRST, tickets, given.ticket, n);
+    let right = (byte(v, 0) == LEAF) & (page_right & ticket_right);
+    Given {
+        leaf: behind(given.leaf, PAGE),
+        ticket: behind(given.ticket, n),
+        score: given.score.count(right),
+    }
+}
+
+// A record that isn't whole ends before its page does, and so is wrong.
+fn next_leaf(fd: i32, given: Given, area: &[u8], tickets: &[u8]) -> Given {
+    let mut record = [0u8; RECORD];
+    let n = io::read_full(fd, &mut record);
+    let whole = &record[..];
+    leaf(&whole[..n], given, area, tickets)
+}
+
+// The leaves of a digest that gave n.
+fn leaves(fd: i32, n: usize, t: Score, area: &[u8], tickets: &[u8]) -> Score {
+    let mut given = Given {
+        leaf: 0,
+        ticket: 0,
+        score: t,
+    };
+    let mut i = 0;
+    while i < n {
+        given = next_leaf(fd, given, area, tickets);
+        i += 1;
+    }
+    given.score
+}
+
+// The answer of a digest, and the leaves behind it.
+fn digest_counted(
+    fd: i32,
+    v: &[u8],
+    t: Score,
+    after: Digested,
+    area: &[u8],
+    tickets: &[u8],
+) -> Score {
+    let reply = after.reply;
+    let cutoff = after.cutoff;
+    let given = same_digest(v, gave_out(reply, cutoff));
+    let right = given & (lendable(v) & only_given(v, area, tickets));
+    leaves(fd, number(v, NUMBER), t.count(right), area, tickets)
+}
+
+fn at_most(n: usize, most: usize) -> usize
+    ensures { λ r. ⌜ r ≤ most ⌝ }
+{
+    if n < most { n } else { most }
+}
+
+// Whether both buffers have as many bytes as the record says.
+fn lendable(v: &[u8]) -> bool {
+    (number(v, LENGTH) <= AREA) & (number(v, TICKETS) <= TICKET_BYTES)
+}
+
+// A digest that is lent the first bytes of both buffers.
 fn digest_within(
     work: Work,
     rows: &mut [[usize; 5]],
@@ -217,14 +318,12 @@ fn digest_within(
     room: usize,
     tickets: &mut [u8],
     ticket_room: usize,
-) -> LeafDigested
+) -> Digested
     requires { ⌜ room ≤ length (now area) ⌝ }
     requires { ⌜ «ticket_room» ≤ length (now tickets) ⌝ }
 {
-    hold(area);
-    hold(tickets);
     let start = 0;
-    leaf_flat::digest(
+    leaf_digest::digest(
         work,
         rows,
         keys,
@@ -235,43 +334,41 @@ fn digest_within(
     )
 }
 
+// A digest whose buffers hold the same in every byte before.
 fn digest(
+    fd: i32,
     v: &[u8],
     run: Run,
     rows: &mut [[usize; 5]],
     keys: &mut [[u8; 32]],
     store: &mut [u8],
     page: &[u8],
-    area: &mut [u8],
-    tickets: &mut [u8],
 ) -> Run {
-    let room = number(v, LENGTH);
-    let ticket_room = number(v, TICKETS);
-    if area.len() < room {
-        return run.count(false);
-    }
-    if tickets.len() < ticket_room {
-        return run.count(false);
-    }
+    let mut area = [HELD; AREA];
+    let mut tickets = [HELD; TICKET_BYTES];
     let after = digest_within(
         run.work,
         rows,
         keys,
         store,
         page,
-        area,
-        room,
-        tickets,
-        ticket_room,
+        &mut area,
+        at_most(number(v, LENGTH), AREA),
+        &mut tickets,
+        at_most(number(v, TICKETS), TICKET_BYTES),
     );
-    let right = same_digest(v, after.reply) & only_given(v, area, tickets);
-    let mut run = run;
-    run.leaf = 0;
-    run.ticket = 0;
-    run.answered(after.work, right)
+    let work = after.work;
+    let score = run.score;
+    Run {
+        work: work,
+        score: digest_counted(fd, v, score, after, &area, &tickets),
+    }
 }
 
-fn next_base(
+// ---- the records
+
+// Calls that write nothing that is lent.
+fn turned(
     v: &[u8],
     run: Run,
     rows: &[[usize; 5]],
@@ -279,48 +376,47 @@ fn next_base(
     store: &[u8],
     page: &[u8],
 ) -> Run {
-    let separator = key(v, KEY);
-    let cutoff = key(v, CUTOFF);
-    let after = leaf_flat::next_base(
-        run.work,
-        rows,
-        keys,
-        store,
-        page,
-        &separator,
-        byte(v, SECOND),
-        &cutoff,
-    );
-    run.answered(after.work, after.refusal == byte(v, REFUSAL))
+    match byte(v, 0) {
+        4 => next_base(v, run, rows, keys, store, page),
+        5 => remove_cutoff(v, run, rows, keys, store),
+        _ => run.count(false),
+    }
 }
 
-fn remove_cutoff(v: &[u8], run: Run, rows: &[[usize; 5]], keys: &[[u8; 32]], store: &[u8]) -> Run {
-    let after = leaf_flat::remove_cutoff(run.work, rows, keys, store);
-    run.answered(after.work, after.refusal == byte(v, REFUSAL))
+// All calls but the digest.
+fn called(
+    v: &[u8],
+    run: Run,
+    rows: &mut [[usize; 5]],
+    keys: &mut [[u8; 32]],
+    store: &mut [u8],
+    page: &[u8],
+) -> Run {
+    match byte(v, 0) {
+        1 => open(v, run, rows, keys, store, page),
+        2 => ingest(v, run, rows, keys, store, page),
+        _ => turned(v, run, rows, keys, store, page),
+    }
 }
 
-// The place behind n bytes. One that is behind every buffer stays, so that no sum is too great.
-fn behind(at: usize, n: usize) -> usize
-    requires { ⌜ n < 65536 ⌝ }
-    ensures { λ r. ⌜ r ≡ cond (ltb at 65536) (at + n) at ⌝ }
-{
-    if at < 65536 { at + n } else { at }
+// A record by its kind.
+fn replayed(
+    fd: i32,
+    v: &[u8],
+    run: Run,
+    rows: &mut [[usize; 5]],
+    keys: &mut [[u8; 32]],
+    store: &mut [u8],
+    page: &mut [u8],
+) -> Run {
+    match byte(v, 0) {
+        0 => lend(v, run, page),
+        3 => digest(fd, v, run, rows, keys, store, page),
+        _ => called(v, run, rows, keys, store, page),
+    }
 }
 
-// The next leaf of the last digest, and its ticket.
-fn leaf(v: &[u8], run: Run, area: &[u8], tickets: &[u8]) -> Run
-    ensures { λ r. ⌜ Counted (sameLeaf (now (v .entry)) (now (area .entry)) (run .leaf) (now (tickets .entry)) (run .ticket)) (run .score) (r .score) ⌝ }
-{
-    let n = number(v, LENGTH);
-    let page_right = same_part(v, BODY, area, run.leaf, PAGE);
-    let ticket_right = same_part(v, FIRST, tickets, run.ticket, n);
-    let mut run = run;
-    run.leaf = behind(run.leaf, PAGE);
-    run.ticket = behind(run.ticket, n);
-    run.count(page_right & ticket_right)
-}
-
-// The next record of the file, by its kind.
+// The next record of the file, with the leaves behind it.
 fn next(
     fd: i32,
     run: Run,
@@ -328,25 +424,13 @@ fn next(
     keys: &mut [[u8; 32]],
     store: &mut [u8],
     page: &mut [u8],
-    area: &mut [u8],
-    tickets: &mut [u8],
 ) -> Run {
     let mut record = [0u8; RECORD];
     let n = io::read_full(fd, &mut record);
     if n != RECORD {
         return run.end(n);
     }
-    let v = &record[..];
-    match byte(v, 0) {
-        0 => lend(v, run, page),
-        1 => open(v, run, rows, keys, store, page),
-        2 => ingest(v, run, rows, keys, store, page),
-        3 => digest(v, run, rows, keys, store, page, area, tickets),
-        4 => next_base(v, run, rows, keys, store, page),
-        5 => remove_cutoff(v, run, rows, keys, store),
-        6 => leaf(v, run, area, tickets),
-        _ => run.count(false),
-    }
+    replayed(fd, &record, run, rows, keys, store, page)
 }
 
 // All records of the file, since one goes on with what the one before it left. Nothing tells that a file ends, so the turns are counted.
@@ -355,21 +439,10 @@ pub(crate) fn all(fd: i32, t: Score) -> Score {
     let mut keys = [[0u8; 32]; 121];
     let mut store = [0u8; 9000];
     let mut page = [0u8; PAGE];
-    let mut area = [0u8; 20480];
-    let mut tickets = [0u8; 325];
     let mut run = Run::new(t);
     let mut turns = u64::MAX;
     while turns > 0 && run.score.more {
-        run = next(
-            fd,
-            run,
-            &mut rows,
-            &mut keys,
-            &mut store,
-            &mut page,
-            &mut area,
-            &mut tickets,
-        );
+        run = next(fd, run, &mut rows, &mut keys, &mut store, &mut page);
         turns -= 1;
     }
     run.score

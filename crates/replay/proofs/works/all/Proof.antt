@@ -7,11 +7,11 @@ use Rattle.replay.proofs.works.all.Statement.{statement}
 use Rattle.replay.proofs.works.all.Tie as tie
 
 abbrev Inv-loop : tie.InvT-loop
-Inv-loop fd rows₀ keys₀ store₀ page₀ area₀ tickets₀ run₀ turns₀ rows keys store page area tickets run turns =
-    (length rows ≡ 121) × (length keys ≡ 121) × (length store ≡ 9000) × (length page ≡ 4096) × (length area ≡ 20480) × (length tickets ≡ 325)
+Inv-loop fd rows₀ keys₀ store₀ page₀ run₀ turns₀ rows keys store page run turns =
+    (length rows ≡ 121) × (length keys ≡ 121) × (length store ≡ 9000) × (length page ≡ 4096)
 
 abbrev μ-loop : tie.MeasureT-loop
-μ-loop fd rows₀ keys₀ store₀ page₀ area₀ tickets₀ run₀ turns₀ rows keys store page area tickets run turns = turns
+μ-loop fd rows₀ keys₀ store₀ page₀ run₀ turns₀ rows keys store page run turns = turns
 
 new-requires : tie.Need-new-requires Inv-loop μ-loop
 new-requires c κs = search needs
@@ -30,12 +30,6 @@ slice-aggregate-next-3 c = search needs
 
 slice-aggregate-next-4 : tie.Need-slice-aggregate-next-4 Inv-loop μ-loop
 slice-aggregate-next-4 c = search needs
-
-slice-aggregate-next-5 : tie.Need-slice-aggregate-next-5 Inv-loop μ-loop
-slice-aggregate-next-5 c = search needs
-
-slice-aggregate-next-6 : tie.Need-slice-aggregate-next-6 Inv-loop μ-loop
-slice-aggregate-next-6 c = search needs
 
 next-requires : tie.Need-next-requires Inv-loop μ-loop
 next-requires c κs = search needs
@@ -64,8 +58,6 @@ all-spec =
     slice-aggregate-next-2
     slice-aggregate-next-3
     slice-aggregate-next-4
-    slice-aggregate-next-5
-    slice-aggregate-next-6
     next-requires
     sub-turns
     loop-less

@@ -14,6 +14,9 @@ same-part-requires c κs = search needs
 same-part-requires-2 : tie.Need-same-part-requires-2
 same-part-requires-2 c κs = search needs
 
+byte-requires : tie.Need-byte-requires
+byte-requires c κs = search needs
+
 behind-requires : tie.Need-behind-requires
 behind-requires c κs = search needs
 
@@ -33,6 +36,7 @@ leaf-spec =
     number-requires
     same-part-requires
     same-part-requires-2
+    byte-requires
     behind-requires
     behind-requires-2
     count-requires
