@@ -1,96 +1,107 @@
 // The trials of digests: values are put into a work, and the leaves that it then gives are said by their bodies.
+use crate::keys::key_of;
 use crate::line::close;
 use crate::line::say;
 use crate::line::say_reply;
-use crate::works::no_work;
+use crate::works::opened;
+use leaf_ingest::Change;
 use leaf_within::LeafGave;
+use leaf_within::gave_out;
 use leaf_work::Work;
 use libc::STDOUT_FILENO;
 ghost use Prim.Native.Nat.{_<_};
 
-// New values for n keys that start with `first`.
-fn put_all(
+// The key of value i: the first n start with 10, the others with 20.
+fn key_at(i: u8, n: u8) -> [u8; 32] {
+    if i < n {
+        return key_of(0x10, i);
+    }
+    key_of(0x20, i)
+}
+
+fn value_at<'a>(i: u8, n: u8, value: &'a [u8], last: &'a [u8]) -> &'a [u8] {
+    if i < n {
+        return value;
+    }
+    last
+}
+
+// So many new values: this one for the first n keys, the last one for the others.
+fn put_all<'a>(
     work: Work,
     rows: &mut [[usize; 5]],
     keys: &mut [[u8; 32]],
     store: &mut [u8],
     page: &[u8],
-    first: u8,
     n: u8,
-    value: &[u8],
+    value: &'a [u8],
+    count: u8,
+    last: &'a [u8],
 ) -> Work {
     let mut work = work;
     let mut i: u8 = 0;
-    while i < n {
-        let mut key = [0u8; 32];
-        key[0] = first;
-        key[1] = i;
-        let after = leaf_flat::ingest(work, rows, keys, store, page, &key, 1, 0, value);
-        work = after.work;
+    while i < count {
+        let key = key_at(i, n);
+        let new = value_at(i, n, value, last);
         i += 1;
+        let after = leaf_ingest::ingest(
+            work,
+            rows,
+            keys,
+            store,
+            page,
+            &key,
+            Change::Put(false),
+            new,
+        );
+        work = after.work;
     }
     work
 }
 
-// An opening, with a base where `based` is set and a cutoff where `cut` is; n values, one more, and a digest.
-fn digested(
-    based: u8,
+// What a digest gives.
+fn given(
+    work: Work,
+    rows: &mut [[usize; 5]],
+    keys: &mut [[u8; 32]],
+    store: &mut [u8],
     page: &[u8],
-    cut: u8,
+    area: &mut [u8],
+) -> LeafGave {
+    let mut tickets = [0u8; 260];
+    let after = leaf_digest::digest(work, rows, keys, store, page, area, &mut tickets);
+    let reply = after.reply;
+    let cutoff = after.cutoff;
+    gave_out(reply, cutoff)
+}
+
+// An opening, with a base where `based` is set and a cutoff where `cut` is; so many values, and a digest.
+fn digested<'a>(
+    based: bool,
+    page: &[u8],
+    cut: bool,
     n: u8,
-    value: &[u8],
-    more: u8,
-    last: &[u8],
+    value: &'a [u8],
+    count: u8,
+    last: &'a [u8],
     area: &mut [u8],
 ) -> LeafGave {
     let mut rows = [[0usize; 5]; 121];
     let mut keys = [[0u8; 32]; 121];
     let mut store = [0u8; 9000];
-    let mut tickets = [0u8; 260];
-    let none = [0u8; 32];
-    let far = [0xffu8; 32];
-    let opened = leaf_flat::open(
-        based,
-        page,
-        &none,
-        cut,
-        &far,
-        no_work(),
-        &mut rows,
-        &mut keys,
-        &mut store,
-    );
+    let opening = opened(based, page, cut, &mut rows, &mut keys, &mut store).work;
     let work = put_all(
-        opened.work,
+        opening,
         &mut rows,
         &mut keys,
         &mut store,
         page,
-        0x10,
         n,
         value,
-    );
-    let work = put_all(
-        work,
-        &mut rows,
-        &mut keys,
-        &mut store,
-        page,
-        0x20,
-        more,
+        count,
         last,
     );
-    let after = leaf_flat::digest(
-        work,
-        &mut rows,
-        &mut keys,
-        &mut store,
-        page,
-        area,
-        &mut tickets,
-    );
-    let reply = after.reply;
-    reply
+    given(work, &mut rows, &mut keys, &mut store, page, area)
 }
 
 fn wide(x: usize) -> u64 {
@@ -136,7 +147,18 @@ fn say_leaf(page: &[u8], there: bool, stated: usize) -> bool {
     b == stated
 }
 
-// Says what a digest gave; whether it gave leaves with these bodies, 0 for none, and asks for a merge where `waiting` is set.
+// Says the leaves that a digest gave; whether they are at most three and have these bodies, 0 for none.
+fn say_bodies(leaves: usize, area: &[u8], one: usize, two: usize, three: usize) -> bool {
+    if area.len() < 12288 {
+        return false;
+    }
+    let first = say_leaf(&area[0..4096], 0 < leaves, one);
+    let second = say_leaf(&area[4096..8192], 1 < leaves, two);
+    let third = say_leaf(&area[8192..12288], 2 < leaves, three);
+    first & (second & (third & (leaves < 4)))
+}
+
+// Says what a digest gave; whether it gave leaves with these bodies, and asks for a merge where `waiting` is set.
 fn say_leaves(
     after: LeafGave,
     area: &[u8],
@@ -145,16 +167,10 @@ fn say_leaves(
     three: usize,
     waiting: u8,
 ) -> bool {
-    if area.len() < 12288 {
-        return false;
-    }
-    let first = say_leaf(&area[0..4096], 0 < after.leaves, one);
-    let second = say_leaf(&area[4096..8192], 1 < after.leaves, two);
-    let third = say_leaf(&area[8192..12288], 2 < after.leaves, three);
+    let right = say_bodies(after.leaves, area, one, two, three);
     if after.waiting != 0 {
         say(b"merge request");
     }
-    let right = first & (second & (third & (after.leaves < 4)));
     right & ((after.refusal == 0) & (after.waiting == waiting))
 }
 
@@ -162,16 +178,24 @@ fn say_leaves(
 fn values_trial(label: &[u8], n: u8, value: &[u8], one: usize, two: usize, three: usize) {
     say(label);
     let mut area = [0u8; 16384];
-    let after = digested(0, &[0u8; 1], 0, n, value, 0, value, &mut area);
+    let after = digested(false, &[0u8; 1], false, n, value, n, value, &mut area);
     close(say_leaves(after, &area, one, two, three, 0));
 }
 
 // An empty base with a cutoff, and two values.
-fn merge_trial(label: &[u8], value: &[u8], last: &[u8], leaf: usize, waiting: u8) {
+fn merge_trial<'a>(label: &[u8], value: &'a [u8], last: &'a [u8], leaf: usize, waiting: u8) {
     say(label);
     let mut area = [0u8; 16384];
-    let after = digested(1, &[0u8; 4096], 1, 1, value, 1, last, &mut area);
+    let after = digested(true, &[0u8; 4096], true, 1, value, 2, last, &mut area);
     close(say_leaves(after, &area, leaf, 0, 0, waiting));
+}
+
+// Two inserts before a base.
+fn inserts_before(page: &[u8]) -> bool {
+    let value = [7u8; 1332];
+    let mut area = [0u8; 16384];
+    let after = digested(true, page, false, 2, &value, 2, &value, &mut area);
+    say_leaves(after, &area, 2732, 4092, 0, 0)
 }
 
 // The page of three values of 1,330, whose keys come last, is the base of two inserts before them.
@@ -179,11 +203,8 @@ fn inserts_before_a_base() {
     say(b"* two of 1,332 before a base of three 1,330  ");
     let mut area = [0u8; 16384];
     let value = [7u8; 1330];
-    let base = digested(0, &[0u8; 1], 0, 0, &value, 3, &value, &mut area);
-    let mut given = [0u8; 16384];
-    let page = &area[0..4096];
-    let after = digested(1, page, 0, 2, &[7u8; 1332], 0, &value, &mut given);
-    let stated = say_leaves(after, &given, 2732, 4092, 0, 0);
+    let base = digested(false, &[0u8; 1], false, 0, &value, 3, &value, &mut area);
+    let stated = inserts_before(&area[0..4096]);
     close(stated & (base.leaves == 1));
 }
 
@@ -192,7 +213,7 @@ fn short_area() {
     say(b"* the same, four pages asked, area of three  ");
     let mut area = [0u8; 12288];
     let value = [7u8; 1332];
-    let after = digested(0, &[0u8; 1], 0, 5, &value, 0, &value, &mut area);
+    let after = digested(false, &[0u8; 1], false, 5, &value, 5, &value, &mut area);
     say_reply(after.refusal);
     close(after.refusal == 17);
 }

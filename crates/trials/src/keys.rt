@@ -16,6 +16,14 @@ pub(crate) fn key_from(x: u8) -> [u8; 32]
     key
 }
 
+// A key that starts with x and y, zeros after.
+pub(crate) fn key_of(x: u8, y: u8) -> [u8; 32] {
+    let mut key = [0u8; 32];
+    key[0] = x;
+    key[1] = y;
+    key
+}
+
 // Whether all bytes but the first are zero.
 fn zeros_after(key: &[u8; 32]) -> bool {
     let mut i = 1;
@@ -28,18 +36,23 @@ fn zeros_after(key: &[u8; 32]) -> bool {
     true
 }
 
+// A refusal, or the byte with which the separator starts.
+fn say_separator(reply: u8, first: u8) {
+    if reply == 0 {
+        say(b"starts ");
+        say_hex(first);
+    } else {
+        say_reply(reply);
+    }
+}
+
 // `separate` of keys that start with a and b: refused by `refusal` (0: accepted), and what it was lent then starts with x.
 fn separate_trial(label: &[u8], a: u8, b: u8, refusal: u8, x: u8) {
     say(label);
     let mut out = key_from(0xee);
     let reply = bit_ops::separate(&key_from(a), &key_from(b), &mut out);
-    if reply == 0 {
-        say(b"starts ");
-        say_hex(out[0]);
-    } else {
-        say_reply(reply);
-    }
-    close(reply == refusal && out[0] == x && zeros_after(&out));
+    say_separator(reply, out[0]);
+    close((reply == refusal) & ((out[0] == x) & zeros_after(&out)));
 }
 
 pub(crate) fn run() {

@@ -47,51 +47,59 @@ fn check_trial(label: &[u8], page: &[u8; 4096], refusal: u8) {
     close(reply == refusal);
 }
 
-// The second of two records with empty values, built as a page of its own: by a cell, and as a chunk.
-fn number_trial(label: &[u8], flag: u8, high: u8) {
-    say(label);
-    let mut page = empty_values(2);
-    page[69] = flag;
-    let mut cell = [0xeeu8; 4096];
-    let mut chunk = [0xeeu8; 4096];
-    let by_cell = leaf_builder::rebuild(&page, 1, 2, 2, &mut cell);
-    let by_chunk = leaf_builder::rebuild(&page, 1, 1, 2, &mut chunk);
-    say_hex(cell[34]);
-    say(b" ");
-    say_hex(cell[35]);
-    let same = cell[34] == chunk[34] && cell[35] == chunk[35];
-    close(by_cell == 0 && by_chunk == 0 && same && cell[34] == 0 && cell[35] == high);
+// A page of n records.
+fn count_trial(label: &[u8], n: u8, refusal: u8) {
+    check_trial(label, &empty_values(n), refusal);
 }
 
-// A page of one record whose value starts at byte 256 * high + low.
-fn one_value(low: u8, high: u8) -> [u8; 4096] {
+// A page of one record whose value starts at byte 256 * 10 + low.
+fn value_trial(label: &[u8], low: u8, refusal: u8) {
     let mut page = empty_values(1);
     page[34] = low;
-    page[35] = high;
-    page
+    page[35] = 0x0a;
+    check_trial(label, &page, refusal);
+}
+
+// What building a page answers, and the number bytes of its first record.
+struct Built {
+    reply: u8,
+    low: u8,
+    high: u8,
+}
+
+// The second of two records, built as a page of its own: by a cell where `mid` is 2, as a chunk where it is 1.
+fn build(page: &[u8; 4096], mid: usize) -> Built {
+    let mut out = [0xeeu8; 4096];
+    let reply = leaf_builder::rebuild(page, 1, mid, 2, &mut out);
+    Built {
+        reply: reply,
+        low: out[34],
+        high: out[35],
+    }
+}
+
+fn is_built(page: Built, high: u8) -> bool {
+    (page.reply == 0) & ((page.low == 0) & (page.high == high))
+}
+
+// The number bytes of an empty value, by both ways of building.
+fn number_trial(label: &[u8], high: u8) {
+    say(label);
+    let mut page = empty_values(2);
+    page[69] = high;
+    let cell = build(&page, 2);
+    let chunk = build(&page, 1);
+    say_hex(cell.low);
+    say(b" ");
+    say_hex(cell.high);
+    close(is_built(cell, high) & is_built(chunk, high));
 }
 
 pub(crate) fn run() {
-    number_trial(b"* one empty value, number bytes              ", 0x10, 0x10);
-    number_trial(b"* the same, flagged                          ", 0x90, 0x90);
-    check_trial(
-        b"  page with n 120                            ",
-        &empty_values(120),
-        0,
-    );
-    check_trial(
-        b"  page with n 121                            ",
-        &empty_values(121),
-        2,
-    );
-    check_trial(
-        b"  page value of 1,332                        ",
-        &one_value(0xcc, 0x0a),
-        0,
-    );
-    check_trial(
-        b"  page value of 1,333                        ",
-        &one_value(0xcb, 0x0a),
-        4,
-    );
+    number_trial(b"* one empty value, number bytes              ", 0x10);
+    number_trial(b"* the same, flagged                          ", 0x90);
+    count_trial(b"  page with n 120                            ", 120, 0);
+    count_trial(b"  page with n 121                            ", 121, 2);
+    value_trial(b"  page value of 1,332                        ", 0xcc, 0);
+    value_trial(b"  page value of 1,333                        ", 0xcb, 4);
 }

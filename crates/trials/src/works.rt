@@ -1,10 +1,13 @@
 // The trials of works.
+use crate::keys::key_from;
 use crate::line::close;
 use crate::line::say;
 use crate::line::say_reply;
 use crate::pages::flagged_pair;
+use leaf_ingest::Change;
 use leaf_open::Updated;
 use leaf_take::LeafReport;
+use leaf_take::report_out;
 use leaf_work::Work;
 
 pub(crate) fn no_work() -> Work {
@@ -28,21 +31,23 @@ pub(crate) fn no_work() -> Work {
     }
 }
 
-// An opening without a cutoff, with a base where `based` is set. The calls are few and large, so each has a function of its own.
-fn opened(
-    based: u8,
+// An opening, with a base where `based` is set and a cutoff where `cut` is. The calls are few and large, so each has a function of its own.
+pub(crate) fn opened(
+    based: bool,
     page: &[u8],
+    cut: bool,
     rows: &mut [[usize; 5]],
     keys: &mut [[u8; 32]],
     store: &mut [u8],
 ) -> Updated {
     let none = [0u8; 32];
-    leaf_flat::open(based, page, &none, 0, &none, no_work(), rows, keys, store)
+    let far = [0xffu8; 32];
+    leaf_open::open(based, page, &none, cut, &far, no_work(), rows, keys, store)
 }
 
 fn opens(rows: &mut [[usize; 5]], keys: &mut [[u8; 32]]) -> u8 {
     let mut store = [0u8; 4096];
-    opened(0, &[0u8; 1], rows, keys, &mut store).refusal
+    opened(false, &[0u8; 1], false, rows, keys, &mut store).refusal
 }
 
 fn list_of_120() {
@@ -63,48 +68,49 @@ fn list_of_121() {
     close(refusal == 0);
 }
 
-// An opening, with a base where `based` is set, and an ingest: with the value where `put` is set, else a deletion.
-fn ingested(based: u8, page: &[u8], key: &[u8; 32], put: u8, value: &[u8]) -> LeafReport {
+// An opening, with a base where `based` is set, and an ingest.
+fn ingested(based: bool, page: &[u8], key: &[u8; 32], change: Change, value: &[u8]) -> LeafReport {
     let mut rows = [[0usize; 5]; 121];
     let mut keys = [[0u8; 32]; 121];
     let mut store = [0u8; 4096];
-    let work = opened(based, page, &mut rows, &mut keys, &mut store).work;
-    let after = leaf_flat::ingest(
+    let work = opened(based, page, false, &mut rows, &mut keys, &mut store).work;
+    let after = leaf_ingest::ingest(
         work,
         &mut rows,
         &mut keys,
         &mut store,
         page,
         key,
-        put,
-        0,
+        change,
         value,
     );
     let reply = after.reply;
-    reply
+    report_out(reply)
 }
 
 // A new value in a work without a base.
 fn value_trial(label: &[u8], value: &[u8], refusal: u8) {
     say(label);
-    let after = ingested(0, &[0u8; 1], &[0u8; 32], 1, value);
+    let after = ingested(false, &[0u8; 1], &[0u8; 32], Change::Put(false), value);
     say_reply(after.refusal);
     close(after.refusal == refusal);
+}
+
+fn say_report(reported: u8) {
+    if reported == 0 {
+        say(b"nothing reported");
+    } else {
+        say(b"reported");
+    }
 }
 
 // A base of two flagged records, of which the one with this key is deleted.
 fn report_trial(label: &[u8], first: u8, reported: u8) {
     say(label);
-    let mut key = [0u8; 32];
-    key[0] = first;
     let page = flagged_pair();
-    let after = ingested(1, &page, &key, 0, &[0u8; 1]);
-    if after.reported == 0 {
-        say(b"nothing reported");
-    } else {
-        say(b"reported");
-    }
-    close(after.refusal == 0 && after.reported == reported);
+    let after = ingested(true, &page, &key_from(first), Change::Delete, &[0u8; 1]);
+    say_report(after.reported);
+    close((after.refusal == 0) & (after.reported == reported));
 }
 
 pub(crate) fn run() {

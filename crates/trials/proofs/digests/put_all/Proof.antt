@@ -7,25 +7,25 @@ use Rattle.trials.proofs.digests.put_all.Statement.{statement}
 use Rattle.trials.proofs.digests.put_all.Tie as tie
 
 abbrev Inv-loop : tie.InvT-loop
-Inv-loop rows₀ keys₀ store₀ page first n value work₀ i₀ rows keys store work i = (length rows ≡ length rows₀) × (length keys ≡ length keys₀) × (length store ≡ length store₀)
+Inv-loop rows₀ keys₀ store₀ page n value count last work₀ i₀ rows keys store work i = (length rows ≡ length rows₀) × (length keys ≡ length keys₀) × (length store ≡ length store₀)
 
 abbrev μ-loop : tie.MeasureT-loop
-μ-loop rows₀ keys₀ store₀ page first n value work₀ i₀ rows keys store work i = n - i
+μ-loop rows₀ keys₀ store₀ page n value count last work₀ i₀ rows keys store work i = count - i
 
 loop-holds : tie.Need-loop-holds Inv-loop μ-loop
 loop-holds c = search needs
 
-array-write-key : tie.Need-array-write-key Inv-loop μ-loop
-array-write-key c = search needs
+key-at-requires : tie.Need-key-at-requires Inv-loop μ-loop
+key-at-requires c κs = search needs
 
-array-write-key-2 : tie.Need-array-write-key-2 Inv-loop μ-loop
-array-write-key-2 c = search needs
-
-ingest-requires : tie.Need-ingest-requires Inv-loop μ-loop
-ingest-requires c κs = search needs
+value-at-requires : tie.Need-value-at-requires Inv-loop μ-loop
+value-at-requires c κs = search needs
 
 add-i : tie.Need-add-i Inv-loop μ-loop
 add-i c = search needs
+
+ingest-requires : tie.Need-ingest-requires Inv-loop μ-loop
+ingest-requires c κs = search needs
 
 loop-less : tie.Need-loop-less Inv-loop μ-loop
 loop-less c = search needs
@@ -52,10 +52,10 @@ put-all-spec =
     Inv-loop
     μ-loop
     loop-holds
-    array-write-key
-    array-write-key-2
-    ingest-requires
+    key-at-requires
+    value-at-requires
     add-i
+    ingest-requires
     loop-less
     loop-again
     same-length
