@@ -14,9 +14,7 @@ step = @start=$$(date +%s) && echo "== $(1)" && $(2) && echo "== $(1): $$(($$(da
 .PHONY: run test bench growth layout claims library header symbols examples compare
 
 run:
-	@mkdir -p build
-	@echo "proving and building trials (log: build/run.log)"
-	@rt check trials > build/run.log 2>&1 || { cat build/run.log; exit 1; }
+	$(call step,trials proved with all that it stands on (log: build/run.log),tools/quietly build/run.log rt check trials)
 	@target/bin/trials
 
 # `rt ci` comes last, since it removes target/, and so that its 'N passed, 0 failed' is the last line: what reads its logs says
