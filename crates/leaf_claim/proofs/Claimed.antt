@@ -16,7 +16,7 @@ use Rattle.leaf_model.specs.Cut.{Cut}
 use Rattle.leaf_model.specs.Work.{Change, zeroKey, plan, finished, turnAfter, separatorAfter, overrideAfter, floorAfter, leavesBy}
 use Rattle.leaf_model.proofs.Lists.{all-map}
 use Rattle.leaf_model.proofs.AsThePaperSays.{cutting-as-the-paper-says}
-use Rattle.leaf_model.proofs.Separators.{linked-leaf-ends-where-the-next-starts}
+use Rattle.leaf_model.proofs.Separators.{linked-leaves-are-right}
 use Rattle.leaf_work.specs.declared.Work.{Work}
 use Rattle.leaf_work.specs.declared.Entry.{Entry}
 use Rattle.leaf_work.specs.Tests.{isSet, bit, keyIf}
@@ -28,8 +28,8 @@ use Rattle.leaf_work.specs.Digest.{digestNumber, Digested, pagesOf, ticketsOf, 
 use Rattle.leaf_work.proofs.Laid.{Keyed, list-length, store-length, pending-parts}
 use Rattle.leaf_work.proofs.PendingRecords.{EntryKeyed}
 use Rattle.leaf_work.proofs.Canonical.{sound-work-is-canonical}
-use Rattle.leaf_claim.specs.Sequence.{State, Call, ingest, digest, next-base, remove-cutoff, lent, answered, next, nexts, opened, leavesOf}
-use Rattle.leaf_claim.specs.Claim.{Formed, FormedOpening, stepsSay, Digests, LinksRight, Claim}
+use Rattle.leaf_claim.specs.Sequence.{State, Call, ingest, digest, next-base, remove-cutoff, lent, answered, next, nexts, opened}
+use Rattle.leaf_claim.specs.Claim.{Formed, FormedOpening, stepsSay, Digests, Claim}
 use Rattle.leaf_claim.proofs.Reached.{Reached, reached-state-earns-no-refusal}
 use Rattle.leaf_claim.proofs.IngestStep.{ingest-reaches-a-state, ingest-keeps-the-lengths}
 use Rattle.leaf_claim.proofs.DigestStep.{digest-reaches-a-state, digest-keeps-the-lengths, digest-keeps-area-and-tickets-as-long, accepted-digest-is, digest-answers-its-verdict, cutting, digest-verdict, digest-leaves-are-read-back}
@@ -95,9 +95,6 @@ module _ (size : ℕ) (q : PageSize size) where
           floor = ap (λ (c : Cut). floorAfter (s .work .floor) (cutoffOf (s .work)) (c .left)) cut-as-written;
         })
 
-    leaves-are-linked : LinksRight (leavesOf size (s .given))
-    leaves-are-linked xs ys x y e = linked-leaf-ends-where-the-next-starts xs ys x y (rw e at (h .invariant .links))
-
     claim-holds-of-a-reached-state : Claim size s
     claim-holds-of-a-reached-state = record {
       pending = pending;
@@ -108,7 +105,7 @@ module _ (size : ℕ) (q : PageSize size) where
       digests = digests-as-document-01-says;
       bodies = all-map (λ l g. g .0) (h .invariant .leaves);
       bounds = all-map (λ l g. g .1) (h .invariant .leaves);
-      linked = leaves-are-linked;
+      linked = linked-leaves-are-right _ (h .invariant .links);
     }
 
   pub claim-holds-of-every-sequence : (x : Opening) → FormedOpening x → (w : Work) (list : List Entry) (store : List ℕ) → openVerdict size x list store ≡ 0

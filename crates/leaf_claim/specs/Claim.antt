@@ -13,7 +13,7 @@ use Rattle.leaf_node.specs.Fits.{All, Rising}
 use Rattle.leaf_model.specs.Cut.{Cut, cutAsWritten}
 use Rattle.leaf_model.specs.Work.{Leaf, belowCutoff, changeFits, finished, turnAfter, overrideAfter, floorAfter, leavesBy}
 use Rattle.leaf_model.specs.Tally.{changed}
-use Rattle.leaf_model.specs.Claim.{recordsOf, BodyRight, BoundsRight}
+use Rattle.leaf_model.specs.Claim.{recordsOf, BodyRight, BoundsRight, LinksRight}
 use Rattle.leaf_work.specs.Tests.{isSet, keyIf}
 use Rattle.leaf_work.specs.Lent.{turnNumber, isOpen, isWaiting, cutoffOf, overrideOf, separatorOf}
 use Rattle.leaf_work.specs.Sound.{letsIn}
@@ -83,11 +83,6 @@ pub record Digests (size : ℕ) (s : State) (pending : List Record) (area ticket
 
 -- ---- the claim, of the state that a sequence leaves
 
--- "a leaf that isn't its digest's last, or whose digest answered a merge request, has the next leaf's separator as its cutoff, as soon
--- as a next leaf is given"
-abbrev pub LinksRight : List Leaf → Type 0
-LinksRight ls = (xs ys : List Leaf) (x y : Leaf) → ls ≡ xs ++ (x ∷ y ∷ ys) → x .linked ≡ true → x .cutoff ≡ some (y .separator)
-
 pub record Claim (size : ℕ) (s : State) : Type 0 where
   -- "Pending records, the base's rest among them, are what the twin call, given work, list, store and page as a next call of the sequence would
   -- get them, answers from index 0 up to refusal 10, with the bytes at the place named."
@@ -106,4 +101,6 @@ pub record Claim (size : ℕ) (s : State) : Type 0 where
   pub bodies : All (BodyRight size) (leavesOf size (s .given))
   -- "its separator is at or below its first key, its cutoff above its last"
   pub bounds : All BoundsRight (leavesOf size (s .given))
+  -- "a leaf that isn't its digest's last, or whose digest answered a merge request, has the next leaf's separator as its cutoff, as soon
+  -- as a next leaf is given"
   pub linked : LinksRight (leavesOf size (s .given))

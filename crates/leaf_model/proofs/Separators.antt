@@ -12,7 +12,7 @@ use Rattle.leaf_node.specs.Record.{Record}
 use Rattle.leaf_node.specs.Fits.{All, nil, cons, Rising}
 use Rattle.leaf_model.specs.Basics.{joined, nonempty}
 use Rattle.leaf_model.specs.Work.{Leaf, belowCutoff, lastKey, leafCutoff, nextSeparator, isLinked, orElse, withSeparators, separatorAfter, overrideAfter}
-use Rattle.leaf_model.specs.Claim.{Lt, Le, recordsOf, BodyRight, BoundsRight}
+use Rattle.leaf_model.specs.Claim.{Lt, Le, recordsOf, BodyRight, BoundsRight, LinksRight}
 use Rattle.leaf_model.proofs.Tests.{clash, none-is-not-some}
 use Rattle.leaf_model.proofs.Lists.{all-left, all-right, all-head, all-map}
 use Rattle.leaf_model.proofs.Keys.{lt-of-cutoff, rising-head, rising-right, rising-before}
@@ -117,10 +117,13 @@ links-append (links∷ {l} {ls = []} t h) j k = links∷ (λ e. let q = t e in (
 links-append (links∷ {l} {ls = x ∷ xs} t h) j k = links∷ t (links-append h j k)
 
 -- neighbours among linked leaves
-pub linked-leaf-ends-where-the-next-starts : {o : Option (List ℕ)} (xs ys : List Leaf) (x y : Leaf) → Links o (xs ++ (x ∷ y ∷ ys))
+linked-leaf-ends-where-the-next-starts : {o : Option (List ℕ)} (xs ys : List Leaf) (x y : Leaf) → Links o (xs ++ (x ∷ y ∷ ys))
     → x .linked ≡ true → x .cutoff ≡ some (y .separator)
 linked-leaf-ends-where-the-next-starts [] ys x y (links∷ t h) e = let q = t e in q .2 ∙ sym (q .1)
 linked-leaf-ends-where-the-next-starts (z ∷ xs) ys x y (links∷ t h) e = linked-leaf-ends-where-the-next-starts xs ys x y h e
+
+pub linked-leaves-are-right : {o : Option (List ℕ)} (ls : List Leaf) → Links o ls → LinksRight ls
+linked-leaves-are-right ls h xs ys x y e = linked-leaf-ends-where-the-next-starts xs ys x y (rw e at h)
 
 override-step : (s : List ℕ) (l : List Record) (ls : List (List Record)) (left : List Record)
     → overrideAfter s (l ∷ ls) left ≡ overrideAfter (nextSeparator s l (joined ls ++ left)) ls left

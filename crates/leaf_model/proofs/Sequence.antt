@@ -10,7 +10,7 @@ use Rattle.leaf_model.specs.Tally.{Run, Try, taken, step, steps, opened,
 use Rattle.leaf_model.specs.Claim.{RecordsClaim}
 use Rattle.leaf_model.proofs.Tests.{and-right}
 use Rattle.leaf_model.proofs.Lists.{all-map}
-use Rattle.leaf_model.proofs.Separators.{linked-leaf-ends-where-the-next-starts}
+use Rattle.leaf_model.proofs.Separators.{linked-leaves-are-right}
 use Rattle.leaf_model.proofs.Invariant.{Invariant, ingest-keeps-the-invariant, digest-keeps-the-invariant}
 use Rattle.leaf_model.proofs.Bases.{next-base-keeps-the-invariant, cutoff-removal-keeps-the-invariant, opening-has-the-invariant}
 
@@ -25,7 +25,7 @@ module _ (size : ℕ) where
         rising = h .rising;
         bodies = all-map (λ l g. g .0) (h .leaves);
         bounds = all-map (λ l g. g .1) (h .leaves);
-        linked = λ xs ys x y e. linked-leaf-ends-where-the-next-starts xs ys x y (rw e at (h .links));
+        linked = linked-leaves-are-right _ (h .links);
       }
 
   module _ (p : PageSize size) where

@@ -36,6 +36,11 @@ pub record BoundsRight (l : Leaf) : Type 0 where
   pub first : All (λ r. Le (l .separator) (r .key)) (l .records)
   pub last : (c : List ℕ) → l .cutoff ≡ some c → Lt (lastKey (l .records)) c
 
+-- "a leaf that isn't its digest's last, or whose digest answered a merge request, has the next leaf's separator as its cutoff, as soon
+-- as a next leaf is given"
+abbrev pub LinksRight : List Leaf → Type 0
+LinksRight ls = (xs ys : List Leaf) (x y : Leaf) → ls ≡ xs ++ (x ∷ y ∷ ys) → x .linked ≡ true → x .cutoff ≡ some (y .separator)
+
 -- ---- the claim
 
 pub record RecordsClaim (size : ℕ) (s : Run) : Type 0 where
@@ -44,5 +49,4 @@ pub record RecordsClaim (size : ℕ) (s : Run) : Type 0 where
   pub rising : Rising (s .tally)
   pub bodies : All (BodyRight size) (s .leaves)
   pub bounds : All BoundsRight (s .leaves)
-  -- where a linked leaf ends, the next one starts
-  pub linked : (xs ys : List Leaf) (x y : Leaf) → s .leaves ≡ xs ++ (x ∷ y ∷ ys) → x .linked ≡ true → x .cutoff ≡ some (y .separator)
+  pub linked : LinksRight (s .leaves)
