@@ -1,7 +1,6 @@
 -- Keys by their four words of 8 bytes: what a word spells, and that the first word that differs decides the order and the shared bits.
 -- Assumes nothing.
 use mathlib.Core.Path.{_≡_, sym, ap, _∙_}
-use mathlib.Core.Bool.{true, false}
 use mathlib.Core.List.{List, [], _∷_}
 use Prim.Native.Nat.{ℕ, _+_, _-_, _*_, _^_, _≤_, _<_}
 use native.Mathlib.Nat.{add-zero}
@@ -14,7 +13,7 @@ use lib.Dec.{ltb, eqb}
 use lib.ListN.{length, getD, take, drop, length-drop, take-append-drop}
 use lib.Pow.{pow-add}
 use lib.Seq.{take-add, drop-drop, take-all, getD-drop}
-use Rattle.bit_ops.specs.Key.{Bytes, Key, num, ltKey, eqKey}
+use Rattle.bit_ops.specs.Key.{Key, num, ltKey, eqKey}
 use Rattle.bit_ops.specs.Separate.{shared, sharedBits}
 use Rattle.bit_ops.specs.Steps.{wordAt, Differing}
 use Rattle.bit_ops.proofs.Number.{num-lt, num-append, num-inj, pow256, part-bytes, part-length, rest-lt}

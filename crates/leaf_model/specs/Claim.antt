@@ -2,7 +2,7 @@
 use mathlib.Core.Path.{_≡_}
 use mathlib.Core.Bool.{true}
 use mathlib.Core.Option.{some}
-use mathlib.Core.List.{List, [], _∷_, _++_, map}
+use mathlib.Core.List.{List, _∷_, _++_, map}
 use Prim.Native.Nat.{ℕ, _≤_, _<_}
 use Rattle.bit_ops.specs.Key.{num}
 use Rattle.leaf_node.specs.Limits.{bodyLimit, mergeBelow}

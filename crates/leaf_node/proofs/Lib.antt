@@ -1,5 +1,5 @@
 -- Laws on plain values. `Verdicts`, `RoundTrips`, `Searches`, `Tickets` and `Limits` are for readers and for other crates; the rest serves the
--- functions' proofs, here and in leaf_builder.
+-- functions' proofs, here, in leaf_read and in leaf_builder.
 pub mod Rules
 pub mod Verdicts
 pub mod Trials

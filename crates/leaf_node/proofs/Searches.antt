@@ -20,7 +20,7 @@ use Rattle.leaf_node.specs.Limits.{PageSize}
 use Rattle.leaf_node.specs.Page.{count, pointer, keyAt}
 use Rattle.leaf_node.specs.Good.{KeysRise, Good}
 use Rattle.leaf_node.specs.Search.{placeFrom, searchOf}
-use Rattle.leaf_node.specs.Steps.{Laid, Sorted, Readable}
+use Rattle.leaf_node.specs.Steps.{Sorted}
 use Rattle.leaf_node.proofs.Rules.{both}
 use Rattle.leaf_node.proofs.Reading.{pointers-inside}
 

@@ -7,17 +7,14 @@ use native.Mathlib.Nat.{mul-le-mul-right}
 use native.Mathlib.Decide.{decLt}
 use native.Mathlib.Omega.{arith}
 use lib.Dec.{eqb}
-use lib.ListN.{length, getD, take, drop, take-append-drop, drop-of-length-le}
-use lib.Seq.{drop-cons, drop-drop}
+use lib.ListN.{length, take, drop, take-append-drop, drop-of-length-le}
+use lib.Seq.{drop-drop}
 use borrow.Author.Tests.{eq-eqb, ne-eqb, eqb-true, not-true, not-false}
-use Rattle.leaf_node.specs.Fits.{All, nil, cons}
 use Rattle.bit_ops.specs.Key.{num}
 use Rattle.bit_ops.specs.Steps.{zeros}
 use Rattle.bit_ops.proofs.Number.{pow256-pos}
 use Rattle.leaf_model.specs.Work.{zeroKey}
 use Rattle.leaf_work.specs.Tests.{every, isZero, sameBytes}
-use Rattle.leaf_work.proofs.Tests.{every-all}
-use Rattle.leaf_work.proofs.Tests.{one-test}
 
 -- bytes that spell zero are zeros
 zeros-spell-zero : (xs : List ℕ) → eqb (num xs) 0 ≡ every isZero xs

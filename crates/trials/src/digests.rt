@@ -26,7 +26,7 @@ fn value_at<'a>(i: u8, n: u8, value: &'a [u8], last: &'a [u8]) -> &'a [u8] {
     last
 }
 
-// So many new values: this one for the first n keys, the last one for the others.
+// As many new values as `count` says: `value` for the first n keys, `last` for the others.
 fn put_all<'a>(
     work: Work,
     rows: &mut [[usize; 5]],
