@@ -76,9 +76,13 @@ abbrev pub belowCutoff : Option (List ℕ) → List ℕ → Bool
 belowCutoff none k = true
 belowCutoff (some c) k = ltKey k c
 
--- "Keys must rise, be at or above the base's separator, and after a merge request at or above the cutoff it named."
+-- "Keys must rise, be at or above the base's separator, and after a merge request at or above the cutoff it named": above the last key taken,
+-- and at or above a floor.
+abbrev pub mayCome : List ℕ → Option (List ℕ) → List ℕ → Bool
+mayCome floor last k = not (ltKey k floor) && aboveLast last k
+
 abbrev pub letsIn : Work → List ℕ → Bool
-letsIn w k = not (ltKey k (w .floor)) && aboveLast (w .last) k
+letsIn w k = mayCome (w .floor) (w .last) k
 
 abbrev pub orElse : Option (List ℕ) → List ℕ → List ℕ
 orElse (some k) d = k

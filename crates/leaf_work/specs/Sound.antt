@@ -10,7 +10,7 @@ use Rattle.leaf_node.specs.Limits.{valueLimit, mergeBelow}
 use Rattle.leaf_node.specs.Record.{Record, body, total}
 use Rattle.leaf_node.specs.Page.{count, valuesSize}
 use Rattle.leaf_model.specs.Basics.{nonempty}
-use Rattle.leaf_model.specs.Work.{zeroKey, aboveLast, belowCutoff, isRising}
+use Rattle.leaf_model.specs.Work.{zeroKey, aboveLast, belowCutoff, mayCome, isRising}
 use Rattle.leaf_work.specs.declared.Work.{Work}
 use Rattle.leaf_work.specs.declared.Entry.{Entry}
 use Rattle.leaf_work.specs.Tests.{every, sameBytes, implies, isZero, isSet}
@@ -63,7 +63,7 @@ keysWithin separator cutoff rs = every (λ r. not (ltKey (r .key) separator) && 
 
 -- No. 13 lets the key in: it isn't below the floor, and is above the last key taken
 abbrev pub letsIn : Work → List ℕ → Bool
-letsIn w k = not (ltKey k (w .floor)) && aboveLast (lastOf w) k
+letsIn w k = mayCome (w .floor) (lastOf w) k
 
 -- the greatest key, where keys rise, is itself not let in
 abbrev pub pastAll : Work → List Record → Bool
