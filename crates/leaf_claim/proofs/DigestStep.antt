@@ -14,7 +14,7 @@ use Rattle.leaf_node.specs.Record.{Record, body}
 use Rattle.leaf_node.specs.Ticket.{readTickets}
 use Rattle.leaf_node.specs.Fits.{All, nil, cons, Keyed, Fits}
 use Rattle.leaf_model.specs.Basics.{joined, nonempty}
-use Rattle.leaf_model.specs.Cut.{Cut}
+use Rattle.leaf_model.specs.Cut.{Cut, cutAll}
 use Rattle.leaf_model.specs.Work.{plan, planned, given, digested, workAfter, leavesBy}
 use Rattle.leaf_model.specs.Work as model
 use Rattle.leaf_model.proofs.Tests.{and-left, and-right}
@@ -22,6 +22,7 @@ use Rattle.leaf_model.proofs.Lists.{all-left, all-right}
 use Rattle.leaf_model.proofs.Plan.{Sized, sized[], sized∷, sized-last, leaves-and-kept-are-the-records, leaves-have-right-sizes, leaves-never-more-than-pages-asked}
 use Rattle.leaf_model.proofs.Invariant.{digest-keeps-the-invariant}
 use Rattle.leaf_work.specs.declared.Work.{Work}
+use Rattle.leaf_work.specs.Tests.{isSet}
 use Rattle.leaf_work.specs.Lent.{isOpen, cutoffOf, separatorOf, regarded}
 use Rattle.leaf_work.specs.Pending.{pendingOf}
 use Rattle.leaf_work.specs.Verdict.{hasPages, digestVerdict}
@@ -29,8 +30,10 @@ use Rattle.leaf_work.specs.Digest.{DigestRefused, digestNumber, Digested, pages
 use Rattle.leaf_work.proofs.Tests.{passed, first-passed}
 use Rattle.leaf_work.proofs.Operations.{puts}
 use Rattle.leaf_work.proofs.Laid.{open-turn, pending-parts, seesWork}
+use Rattle.leaf_claim.specs.Told.{toldDigest}
 use Rattle.leaf_claim.specs.Sequence.{State, Given, digest, lent, givenBy, answered, next, readPages, readLeaves, leavesOf}
-use Rattle.leaf_claim.proofs.Leaves.{tickets-take-at-most-65-bytes-a-leaf, pages-take-the-page-size-each, leaves-are-read-back, leaves-append}
+use Rattle.leaf_claim.proofs.Agreeing.{toldOf, kept-for-a-cutoff, digest-is-told}
+use Rattle.leaf_claim.proofs.Leaves.{tickets-are-read-back, tickets-take-at-most-65-bytes-a-leaf, pages-take-the-page-size-each, leaves-are-read-back, leaves-append}
 use Rattle.leaf_claim.proofs.Digesting.{laid-after-digest, model-sees-the-digest, no-page-is-read-after-a-digest, list-is-as-long, store-is-as-long, kept-after-digest}
 use Rattle.leaf_claim.proofs.Reached.{Reached, equal-states-are-reached, regarded-lent, reached-state-earns-no-refusal, pending-keys-have-32-bytes, separator-has-32-bytes, cutoff-has-32-bytes}
 
@@ -67,13 +70,21 @@ module _ (size : ℕ) (q : PageSize size) (s : State) (h : Reached size s) (any 
   cutting = plan size (cutoffOf w) pending
 
   abbrev after : Digested → State
-  after r = record { work = r .work; list = r .list; store = r .store; page = s .page; given = s .given ++ givenBy (r .reply) (r .area) (r .tickets); tally = s .tally }
+  after r = record {
+    work = r .work;
+    list = r .list;
+    store = r .store;
+    page = s .page;
+    told = toldDigest (r .reply) (r .tickets) (s .told);
+    given = s .given ++ givenBy (r .reply) (r .area) (r .tickets);
+    tally = s .tally;
+  }
 
   abbrev lent-by-state : ℕ → List ℕ → Digested
   lent-by-state n x = digestOn size w (s .list) (s .store) area tickets (pendingOf w (s .list) (s .store) x) n
 
   pub digest-of-a-reached-state : digestOf size w (s .list) (s .store) (lent s any) area tickets ≡ digestOn size w (s .list) (s .store) area tickets pending 0
-  digest-of-a-reached-state = ap₂ lent-by-state (reached-state-earns-no-refusal size s h any) (regarded-lent s any)
+  digest-of-a-reached-state = ap₂ lent-by-state (reached-state-earns-no-refusal size s h any) (regarded-lent size s h any)
 
   abbrev pub digest-verdict : ℕ
   digest-verdict = digestVerdict size w pending area tickets 0
@@ -104,7 +115,7 @@ module _ (size : ℕ) (q : PageSize size) (s : State) (h : Reached size s) (any 
   refused-digest-changes-nothing : eqb digest-verdict 0 ≡ false → next size s (digest any area tickets) ≡ s
   refused-digest-changes-nothing e =
       ap after (digest-of-a-reached-state ∙ refused e)
-      ∙ ap (λ (g : List Given). record { work = w; list = s .list; store = s .store; page = s .page; given = g; tally = s .tally }) (append-nil (s .given))
+      ∙ ap (λ (g : List Given). record { work = w; list = s .list; store = s .store; page = s .page; told = s .told; given = g; tally = s .tally }) (append-nil (s .given))
 
   -- ---- the model's cutting
 
@@ -118,7 +129,7 @@ module _ (size : ℕ) (q : PageSize size) (s : State) (h : Reached size s) (any 
   whole-is = leaves-and-kept-are-the-records size (cutoffOf w) pending
 
   cut-right : Sized size (cutoffOf w) (cutting .left) (cutting .leaves)
-  cut-right = leaves-have-right-sizes size q (cutoffOf w) pending (rw (pending-parts w (s .list) (s .store) p) (h .invariant .fitting))
+  cut-right = leaves-have-right-sizes size q (cutoffOf w) pending (rw (pending-parts w (s .list) (s .store) p) (h .canonical .invariant .fitting))
 
   pub cut-leaves-fit : All (Fits size) (cutting .leaves)
   cut-leaves-fit = leaves-fit q cut-right (rw (whole-is, pending-parts w (s .list) (s .store) p) (pending-keys-have-32-bytes size s h))
@@ -144,13 +155,26 @@ module _ (size : ℕ) (q : PageSize size) (s : State) (h : Reached size s) (any 
       leaves-append size (s .given) _
       ∙ ap (λ x. leavesOf size (s .given) ++ x) (digest-leaves-are-read-back ∙ ap (leavesBy (separatorOf w) (cutoffOf w)) cutting-is)
 
+  pub digest-told-of-the-record : toldDigest (digest-done .reply) (digest-done .tickets) (toldOf w) ≡ toldOf (digest-done .work)
+  unfolding plan
+  digest-told-of-the-record =
+      digest-is-told w (cutting .leaves) (cutting .left) (digest-done .tickets)
+      (kept-for-a-cutoff size (isSet (w .cut)) (w .cutoff) (cutAll size pending))
+      (tickets-are-read-back (cutoffOf w) (nonempty (cutting .left)) (cutoff-has-32-bytes size s h) (separatorOf w) (cutting .leaves) _ (cutting .left) (separator-has-32-bytes size s h))
+
+  digest-told : toldDigest (digest-done .reply) (digest-done .tickets) (s .told) ≡ toldOf (digest-done .work)
+  digest-told = ap (toldDigest (digest-done .reply) (digest-done .tickets)) (h .told) ∙ digest-told-of-the-record
+
   reaches : isOpen w ≡ true → Reached size (after digest-done)
   reaches o =
       record {
-        ops = puts (cutting .left);
-        laid = rw page-unread (laid-after-digest size w (s .list) (s .store) area tickets cutting);
-        kept = rw page-unread (kept-after-digest size w (s .list) (s .store) area tickets cutting p (s .page) (h .kept) whole-is (separator-has-32-bytes size s h));
-        invariant = rw (page-unread, work-seen, leaves-seen) (digest-keeps-the-invariant size v (leavesOf size (s .given)) (s .tally) (h .invariant) q (rw (open-turn w o)));
+        canonical = record {
+          ops = puts (cutting .left);
+          laid = rw page-unread (laid-after-digest size w (s .list) (s .store) area tickets cutting);
+          kept = rw page-unread (kept-after-digest size w (s .list) (s .store) area tickets cutting p (s .page) (h .canonical .kept) whole-is (separator-has-32-bytes size s h));
+          invariant = rw (page-unread, work-seen, leaves-seen) (digest-keeps-the-invariant size v (leavesOf size (s .given)) (s .tally) (h .canonical .invariant) q (rw (open-turn w o)));
+        };
+        told = digest-told;
       }
 
   pub digest-is-open : eqb digest-verdict 0 ≡ true → isOpen w ≡ true
@@ -173,8 +197,8 @@ module _ (size : ℕ) (q : PageSize size) (s : State) (h : Reached size s) (any 
           → (length (next size s (digest any area tickets) .list) ≡ length (s .list)) × (length (next size s (digest any area tickets) .store) ≡ length (s .store))
       go true e =
           let n = ap after (accepted-digest-is e) in (
-            ap (λ (t : State). length (t .list)) n ∙ list-is-as-long size w (s .list) (s .store) area tickets cutting p (s .page) (h .kept) whole-is (separator-has-32-bytes size s h),
-            ap (λ (t : State). length (t .store)) n ∙ store-is-as-long size w (s .list) (s .store) area tickets cutting p (s .page) (h .kept) whole-is (separator-has-32-bytes size s h),
+            ap (λ (t : State). length (t .list)) n ∙ list-is-as-long size w (s .list) (s .store) area tickets cutting p (s .page) (h .canonical .kept) whole-is (separator-has-32-bytes size s h),
+            ap (λ (t : State). length (t .store)) n ∙ store-is-as-long size w (s .list) (s .store) area tickets cutting p (s .page) (h .canonical .kept) whole-is (separator-has-32-bytes size s h),
           )
       go false e = let n = refused-digest-changes-nothing e in (ap (λ (t : State). length (t .list)) n, ap (λ (t : State). length (t .store)) n)
 
@@ -190,7 +214,7 @@ module _ (size : ℕ) (q : PageSize size) (s : State) (h : Reached size s) (any 
     has-pages = passed 16 (hasPages size pending area tickets) 0 (passed 8 (isOpen w) _ (first-passed 0 _ (eqb-true _ _ e) .1) .1) .0
 
     few : length (cutting .leaves) ≤ asked
-    few = leaves-never-more-than-pages-asked size q (cutoffOf w) pending (rw (pending-parts w (s .list) (s .store) p) (h .invariant .fitting))
+    few = leaves-never-more-than-pages-asked size q (cutoffOf w) pending (rw (pending-parts w (s .list) (s .store) p) (h .canonical .invariant .fitting))
 
     area-is-as-long : length (digest-done .area) ≡ length area
     area-is-as-long =

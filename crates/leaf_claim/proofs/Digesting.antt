@@ -33,7 +33,7 @@ not-open : (rs : List Record) → eqb (turnNumber (turnAfter rs)) 1 ≡ false
 not-open [] = refl
 not-open (r ∷ rs) = refl
 
-override-is : (s : List ℕ) (ls : List (List Record)) (rs : List Record)
+pub override-is : (s : List ℕ) (ls : List (List Record)) (rs : List Record)
     → keyIf (isSet (bit (nonempty rs))) (cond (nonempty rs) (separatorAfter s ls rs) zeroKey) ≡ overrideAfter s ls rs
 override-is s ls [] = refl
 override-is s ls (r ∷ rs) = refl

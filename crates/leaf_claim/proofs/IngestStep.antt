@@ -23,6 +23,7 @@ use Rattle.leaf_work.specs.Verdict.{ingestVerdict}
 use Rattle.leaf_work.specs.Outcome.{IngestRefused, Quiet, Reported, ingestNumber, Ingested, reportOf, ingestWork, ingestDone, ingestOn, ingestOf}
 use Rattle.leaf_work.proofs.Tests.{and-both, passed, first-passed}
 use Rattle.leaf_work.proofs.Laid.{open-turn, seesWork}
+use Rattle.leaf_claim.specs.Told.{toldIngest}
 use Rattle.leaf_claim.specs.Sequence.{State, ingest, lent, answered, next, leavesOf}
 use Rattle.leaf_claim.proofs.Ingesting.{new, laid-after-ingest, model-sees-the-ingest, list-is-as-long, store-is-as-long, kept-after-ingest}
 use Rattle.leaf_claim.proofs.Reached.{Reached, equal-states-are-reached, regarded-lent, reached-state-earns-no-refusal, pending-rises}
@@ -39,7 +40,7 @@ module _ (size : ℕ) (s : State) (h : Reached size s) (any k : List ℕ) (c : O
   p = regarded w (s .page)
 
   pub ingest-of-a-reached-state : ingestOf size w (s .list) (s .store) (lent s any) k c ≡ ingestOn size w (s .list) (s .store) p k c 0
-  ingest-of-a-reached-state = ap₂ (λ (x : List ℕ) (y : ℕ). ingestOn size w (s .list) (s .store) x k c y) (regarded-lent s any) (reached-state-earns-no-refusal size s h any)
+  ingest-of-a-reached-state = ap₂ (λ (x : List ℕ) (y : ℕ). ingestOn size w (s .list) (s .store) x k c y) (regarded-lent size s h any) (reached-state-earns-no-refusal size s h any)
 
   abbrev verdict : ℕ
   verdict = ingestVerdict size w (s .list) (s .store) p k c 0
@@ -51,6 +52,7 @@ module _ (size : ℕ) (s : State) (h : Reached size s) (any k : List ℕ) (c : O
     list = r .list;
     store = r .store;
     page = s .page;
+    told = cond (eqb (ingestNumber (r .reply)) 0) (toldIngest k (s .told)) (s .told);
     given = s .given;
     tally = cond (eqb (ingestNumber (r .reply)) 0) (changed k c (s .tally)) (s .tally);
   }
@@ -76,7 +78,16 @@ module _ (size : ℕ) (s : State) (h : Reached size s) (any k : List ℕ) (c : O
   refused-ingest-changes-nothing : eqb verdict 0 ≡ false → next size s (ingest any k c) ≡ s
   refused-ingest-changes-nothing e =
       ap after (ingest-of-a-reached-state ∙ refused e)
-      ∙ ap (λ (b : Bool). record { work = w; list = s .list; store = s .store; page = s .page; given = s .given; tally = cond b (changed k c (s .tally)) (s .tally) }) e
+      ∙ ap (λ (b : Bool). record {
+        work = w;
+        list = s .list;
+        store = s .store;
+        page = s .page;
+        told = cond b (toldIngest k (s .told)) (s .told);
+        given = s .given;
+        tally = cond b (changed k c (s .tally)) (s .tally);
+      })
+      e
 
   abbrev ingested-state : State
   ingested-state = record {
@@ -84,6 +95,7 @@ module _ (size : ℕ) (s : State) (h : Reached size s) (any k : List ℕ) (c : O
     list = ingestDone size w (s .list) (s .store) p k c .list;
     store = ingestDone size w (s .list) (s .store) p k c .store;
     page = s .page;
+    told = toldIngest k (s .told);
     given = s .given;
     tally = changed k c (s .tally);
   }
@@ -93,7 +105,16 @@ module _ (size : ℕ) (s : State) (h : Reached size s) (any k : List ℕ) (c : O
       let d = ingestDone size w (s .list) (s .store) p k c in
       let n : eqb (ingestNumber (d .reply)) 0 ≡ true = eq-eqb _ _ report-is-no-refusal in
       ap after (ingest-of-a-reached-state ∙ taken e)
-      ∙ ap (λ (b : Bool). record { work = d .work; list = d .list; store = d .store; page = s .page; given = s .given; tally = cond b (changed k c (s .tally)) (s .tally) }) n
+      ∙ ap (λ (b : Bool). record {
+        work = d .work;
+        list = d .list;
+        store = d .store;
+        page = s .page;
+        told = cond b (toldIngest k (s .told)) (s .told);
+        given = s .given;
+        tally = cond b (changed k c (s .tally)) (s .tally);
+      })
+      n
 
   record Passed : Type 0 where
     turn : isOpen w ≡ true
@@ -124,11 +145,14 @@ module _ (size : ℕ) (s : State) (h : Reached size s) (any k : List ℕ) (c : O
   reaches : length k ≡ 32 → Passed → Reached size ingested-state
   reaches long a =
       record {
-        ops = h .ops ++ new size w (s .list) (s .store) p k c (h .ops) (h .laid);
-        laid = laid-after-ingest size w (s .list) (s .store) p k c (h .ops) (h .laid);
-        kept = kept-after-ingest size w (s .list) (s .store) p k c (h .ops) (h .laid) (s .page) (h .kept) rest-rises long (a .below) (a .room-list) (a .room-store);
-        invariant = rw (model-sees-the-ingest size w (s .list) (s .store) p k c (h .ops) (h .laid) (open-turn w (a .turn)))
-            (ingest-keeps-the-invariant size (seesWork w (s .list) (s .store) p) (leavesOf size (s .given)) (s .tally) (h .invariant) k c (allows long a));
+        canonical = record {
+          ops = h .canonical .ops ++ new size w (s .list) (s .store) p k c (h .canonical .ops) (h .canonical .laid);
+          laid = laid-after-ingest size w (s .list) (s .store) p k c (h .canonical .ops) (h .canonical .laid);
+          kept = kept-after-ingest size w (s .list) (s .store) p k c (h .canonical .ops) (h .canonical .laid) (s .page) (h .canonical .kept) rest-rises long (a .below) (a .room-list) (a .room-store);
+          invariant = rw (model-sees-the-ingest size w (s .list) (s .store) p k c (h .canonical .ops) (h .canonical .laid) (open-turn w (a .turn)))
+              (ingest-keeps-the-invariant size (seesWork w (s .list) (s .store) p) (leavesOf size (s .given)) (s .tally) (h .canonical .invariant) k c (allows long a));
+        };
+        told = ap (toldIngest k) (h .told);
       }
 
   pub ingest-reaches-a-state : length k ≡ 32 → Reached size (next size s (ingest any k c))
@@ -148,8 +172,8 @@ module _ (size : ℕ) (s : State) (h : Reached size s) (any k : List ℕ) (c : O
           let n = accepted-ingest-is e in
           let a = passes e in (
             ap (λ (t : State). length (t .list)) n
-                ∙ list-is-as-long size w (s .list) (s .store) p k c (h .ops) (h .laid) (s .page) (h .kept) rest-rises long (a .below) (a .room-list) (a .room-store),
+                ∙ list-is-as-long size w (s .list) (s .store) p k c (h .canonical .ops) (h .canonical .laid) (s .page) (h .canonical .kept) rest-rises long (a .below) (a .room-list) (a .room-store),
             ap (λ (t : State). length (t .store)) n
-                ∙ store-is-as-long size w (s .list) (s .store) p k c (h .ops) (h .laid) (s .page) (h .kept) rest-rises long (a .below) (a .room-list) (a .room-store),
+                ∙ store-is-as-long size w (s .list) (s .store) p k c (h .canonical .ops) (h .canonical .laid) (s .page) (h .canonical .kept) rest-rises long (a .below) (a .room-list) (a .room-store),
           )
       go false e = let n = refused-ingest-changes-nothing e in (ap (λ (t : State). length (t .list)) n, ap (λ (t : State). length (t .store)) n)

@@ -49,9 +49,9 @@ module _ (c : Option (List ℕ)) (m : Bool) (long-c : Long c) where
   tickets-count s [] left = refl
   tickets-count s (l ∷ ls) left = ap suc (tickets-count (nextSeparator s l (joined ls ++ left)) ls left)
 
-  tickets-read : (s : List ℕ) (ls : List (List Record)) (T : List ℕ) (kept : List Record) → length s ≡ 32
+  pub tickets-are-read-back : (s : List ℕ) (ls : List (List Record)) (T : List ℕ) (kept : List Record) → length s ≡ 32
       → readTickets (length ls) (ticketsOf (withSeparators s c m ls kept) ++ T) ≡ map ticketOf (withSeparators s c m ls kept)
-  tickets-read s ls T kept h = rw (← tickets-count s ls kept) (packed-tickets-are-read-back (tickets-formed s ls kept h) T)
+  tickets-are-read-back s ls T kept h = rw (← tickets-count s ls kept) (packed-tickets-are-read-back (tickets-formed s ls kept h) T)
 
   ticket-short : (s : List ℕ) (o : Option (List ℕ)) → length s ≡ 32 → Long o → length (packedWith s o) ≤ 65
   ticket-short s (some k) h long = omega (arith, length-append s k, long k refl)
@@ -102,7 +102,7 @@ module _ (c : Option (List ℕ)) (m : Bool) (long-c : Long c) where
     pub leaves-are-read-back : (s : List ℕ) (ls : List (List Record)) (left : List Record) (A T : List ℕ) → length s ≡ 32 → All (Fits size) ls
         → readLeaves m (readPages size (length ls) (pagesOf size (withSeparators s c m ls left) ++ A)) (readTickets (length ls) (ticketsOf (withSeparators s c m ls left) ++ T))
         ≡ withSeparators s c m ls left
-    leaves-are-read-back s ls left A T h f = ap₂ (readLeaves m) (pages-read s left A f) (tickets-read s ls T left h) ∙ leaves-again s ls left
+    leaves-are-read-back s ls left A T h f = ap₂ (readLeaves m) (pages-read s left A f) (tickets-are-read-back s ls T left h) ∙ leaves-again s ls left
 
 pub leaves-append : (size : ℕ) (xs ys : List Given) → leavesOf size (xs ++ ys) ≡ leavesOf size xs ++ leavesOf size ys
 leaves-append size [] ys = refl

@@ -2,6 +2,7 @@
 pub mod Ingesting
 pub mod Leaves
 pub mod Digesting
+pub mod Agreeing
 pub mod Reached
 pub mod IngestStep
 pub mod DigestStep
@@ -11,3 +12,4 @@ pub mod OpeningStep
 pub mod Twins
 pub mod Refusals
 pub mod Claimed
+pub mod Examples

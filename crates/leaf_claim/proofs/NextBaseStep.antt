@@ -32,7 +32,9 @@ use Rattle.leaf_work.proofs.Tests.{and-both, passed, first-passed, bit-small, k
 use Rattle.leaf_work.proofs.Operations.{Op, Put, Keep, recordsOfOps, Within, total-append, no-chunks, no-chunk-entries}
 use Rattle.leaf_work.proofs.Laid.{Laid, Kept, turnOf, ignored, an-ignored-page-has-no-records, listed-is, rest-is, pending-is, seesWork}
 use Rattle.leaf_work.proofs.BasePages.{base-is-good, separator-below-cutoff, lent-again-the-page-passes}
+use Rattle.leaf_claim.specs.Told.{toldNextBase}
 use Rattle.leaf_claim.specs.Sequence.{State, next-base, answered, next, leavesOf}
+use Rattle.leaf_claim.proofs.Agreeing.{next-base-is-told}
 use Rattle.leaf_claim.proofs.Reached.{Reached, equal-states-are-reached}
 
 pub refused-change : (verdict : ℕ) (w w′ : Work) → eqb verdict 0 ≡ false → changedBy verdict w w′ ≡ record { reply = Refused verdict; work = w }
@@ -97,7 +99,15 @@ module _ (size : ℕ) (q : PageSize size) (s : State) (h : Reached size s) (page
   verdict = nextBaseVerdict size w (s .list) (s .store) page sep (keyIf cut key)
 
   abbrev moved : Work → Bool → State
-  moved x b = record { work = x; list = s .list; store = s .store; page = cond b page (s .page); given = s .given; tally = cond b (s .tally ++ records page) (s .tally) }
+  moved x b = record {
+    work = x;
+    list = s .list;
+    store = s .store;
+    page = cond b page (s .page);
+    told = cond b (toldNextBase sep (keyIf cut key) (s .told)) (s .told);
+    given = s .given;
+    tally = cond b (s .tally ++ records page) (s .tally);
+  }
 
   abbrev after : Changed → State
   after r = moved (r .work) (eqb (replyNumber (r .reply)) 0)
@@ -121,7 +131,15 @@ module _ (size : ℕ) (q : PageSize size) (s : State) (h : Reached size s) (page
   refused-next-base-changes-nothing e = ap after (refused e) ∙ ap (moved w) e
 
   abbrev based-state : State
-  based-state = record { work = w′; list = s .list; store = s .store; page = page; given = s .given; tally = s .tally ++ records page }
+  based-state = record {
+    work = w′;
+    list = s .list;
+    store = s .store;
+    page = page;
+    told = toldNextBase sep (keyIf cut key) (s .told);
+    given = s .given;
+    tally = s .tally ++ records page;
+  }
 
   accepted-next-base-is : eqb verdict 0 ≡ true → next size s (next-base page sep cut key) ≡ based-state
   accepted-next-base-is e = ap after (taken e)
@@ -166,14 +184,14 @@ module _ (size : ℕ) (q : PageSize size) (s : State) (h : Reached size s) (page
     same : SameListed w w′
     same = record { used = refl; filled = refl; count = refl; bytes = refl; over = refl; low = refl }
 
-    laid-base : Laid w′ (s .list) (s .store) page (h .ops)
-    laid-base = laid-with-another-base w w′ (s .list) (s .store) p (h .ops) page (h .laid) none-now same
+    laid-base : Laid w′ (s .list) (s .store) page (h .canonical .ops)
+    laid-base = laid-with-another-base w w′ (s .list) (s .store) p (h .canonical .ops) page (h .canonical .laid) none-now same
 
     rest-base : restOf w′ (s .store) page ≡ records page
-    rest-base = rest-is w′ (s .list) (s .store) page (h .ops) laid-base ∙ all-of-the-base page
+    rest-base = rest-is w′ (s .list) (s .store) page (h .canonical .ops) laid-base ∙ all-of-the-base page
 
-    pending-base : pendingOf w′ (s .list) (s .store) page ≡ recordsOfOps page (h .ops) ++ records page
-    pending-base = pending-is w′ (s .list) (s .store) page (h .ops) laid-base ∙ ap (λ z. recordsOfOps page (h .ops) ++ z) (all-of-the-base page)
+    pending-base : pendingOf w′ (s .list) (s .store) page ≡ recordsOfOps page (h .canonical .ops) ++ records page
+    pending-base = pending-is w′ (s .list) (s .store) page (h .canonical .ops) laid-base ∙ ap (λ z. recordsOfOps page (h .canonical .ops) ++ z) (all-of-the-base page)
 
     abbrev b : Base
     b = record { records = records page; separator = sep; cutoff = keyIf cut key }
@@ -184,7 +202,7 @@ module _ (size : ℕ) (q : PageSize size) (s : State) (h : Reached size s) (page
     base-seen : seesWork w′ (s .list) (s .store) page ≡ withBase v b
     base-seen = λ j. record {
       turn = Open;
-      listed = listed-with-another-base w w′ (s .list) (s .store) p (h .ops) page (h .laid) none-now same j;
+      listed = listed-with-another-base w w′ (s .list) (s .store) p (h .canonical .ops) page (h .canonical .laid) none-now same j;
       rest = rest-base j;
       override = overrideOf w;
       latest = sep;
@@ -201,7 +219,7 @@ module _ (size : ℕ) (q : PageSize size) (s : State) (h : Reached size s) (page
 
     last-below-it : isSet (w .taken) ≡ true → Lt (w .last) sep
     last-below-it e =
-        let u : ltKey (w .last) (w .cutoff) ≡ true = rw (a .has-cut) at (h .kept .last-below e) in
+        let u : ltKey (w .last) (w .cutoff) ≡ true = rw (a .has-cut) at (h .canonical .kept .last-below e) in
         lt-of-lt-of-le (lt-of-test _ _ u) (le-of-test (w .cutoff) sep (a .reached))
 
     above-last : (t : Bool) → (t ≡ true → Lt (w .last) sep) → (r : Record) → Le sep (r .key) → aboveLast (keyIf t (w .last)) (r .key) ≡ true
@@ -214,32 +232,35 @@ module _ (size : ℕ) (q : PageSize size) (s : State) (h : Reached size s) (page
 
     kept-base : Kept size w′ (s .list) (s .store) page page
     kept-base = record {
-      right-room = h .kept .right-room;
-      room-list = rw pending-base (omega (arith, length-append (recordsOfOps page (h .ops)) (records page), laid-base .count-is, a .room-list));
-      room-store = rw pending-base (omega (arith, total-append (recordsOfOps page (h .ops)) (records page), laid-base .bytes-is, a .room-store));
+      right-room = h .canonical .kept .right-room;
+      room-list = rw pending-base (omega (arith, length-append (recordsOfOps page (h .canonical .ops)) (records page), laid-base .count-is, a .room-list));
+      room-store = rw pending-base (omega (arith, total-append (recordsOfOps page (h .canonical .ops)) (records page), laid-base .bytes-is, a .room-store));
       base-right = λ e. rw (kept-key cut key) (lent-again-the-page-passes size q page sep (keyIf cut key) (a .base));
       rest-above = rw rest-base (all-map (above-last (isSet (w .taken)) last-below-it) (base-facts size b good-b .above-separator));
       last-below = λ e. rw (kept-key cut key) (below-cutoff (keyIf cut key) (separator-below-cutoff size q page sep (keyIf cut key) (a .base)) (last-below-it e));
       cut-based = λ e. refl;
       base-floor = λ e. refl;
       no-cut = kept-key-absent cut key;
-      no-over = h .kept .no-over;
-      no-last = h .kept .no-last;
+      no-over = h .canonical .kept .no-over;
+      no-last = h .canonical .kept .no-last;
       known-turn = refl;
-      flags = record { based = omega arith; cut = bit-small cut; over = h .kept .flags .over; taken = h .kept .flags .taken };
-      keyed = record { latest = sep-long; cutoff = kept-key-long cut key key-long; overriding = h .kept .keyed .overriding; floor = sep-long; last = h .kept .keyed .last };
+      flags = record { based = omega arith; cut = bit-small cut; over = h .canonical .kept .flags .over; taken = h .canonical .kept .flags .taken };
+      keyed = record { latest = sep-long; cutoff = kept-key-long cut key key-long; overriding = h .canonical .kept .keyed .overriding; floor = sep-long; last = h .canonical .kept .keyed .last };
     }
 
     allows : allowed size v (NextBase b) ≡ true
-    allows = and-both (awaits (turnOf (w .turn)) (h .kept .known-turn) (a .closed)) (and-both reaches-it good-b)
+    allows = and-both (awaits (turnOf (w .turn)) (h .canonical .kept .known-turn) (a .closed)) (and-both reaches-it good-b)
 
     reached-base : Reached size based-state
     reached-base =
         record {
-          ops = h .ops;
-          laid = laid-base;
-          kept = kept-base;
-          invariant = rw base-seen (next-base-keeps-the-invariant size v (leavesOf size (s .given)) (s .tally) (h .invariant) b allows);
+          canonical = record {
+            ops = h .canonical .ops;
+            laid = laid-base;
+            kept = kept-base;
+            invariant = rw base-seen (next-base-keeps-the-invariant size v (leavesOf size (s .given)) (s .tally) (h .canonical .invariant) b allows);
+          };
+          told = ap (toldNextBase sep (keyIf cut key)) (h .told) ∙ next-base-is-told w sep cut key;
         }
 
   pub next-base-reaches-a-state : length sep ≡ 32 → length key ≡ 32 → Reached size (next size s (next-base page sep cut key))

@@ -28,14 +28,16 @@ use Rattle.leaf_work.specs.Outcome.{Accepted, Opened, openWork, openOf}
 use Rattle.leaf_work.proofs.Tests.{passed, first-passed, bit-small, kept-key, kept-key-long, kept-key-absent}
 use Rattle.leaf_work.proofs.Laid.{Laid, an-ignored-page-has-no-records, listed-is, rest-is, pending-is, seesWork}
 use Rattle.leaf_work.proofs.BasePages.{a-good-page-has-few-records, values-of-a-good-page-are-no-longer-than-it, base-page-is-good, base-is-good, lent-again-the-page-passes}
+use Rattle.leaf_claim.specs.Told.{toldOpening}
 use Rattle.leaf_claim.specs.Sequence.{State, openedTally, openedPage, opened}
 use Rattle.leaf_claim.specs.Claim.{FormedOpening}
+use Rattle.leaf_claim.proofs.Agreeing.{opening-is-told}
 use Rattle.leaf_claim.proofs.Reached.{Reached, equal-states-are-reached}
 use Rattle.leaf_claim.proofs.NextBaseStep.{all-of-the-base}
 
 -- the state that an accepted opening makes, of n entries and m store bytes
 abbrev opened-state : Opening → ℕ → ℕ → State
-opened-state x n m = record { work = openWork x; list = replicate n blank; store = zeros m; page = openedPage x; given = []; tally = openedTally x }
+opened-state x n m = record { work = openWork x; list = replicate n blank; store = zeros m; page = openedPage x; told = toldOpening x; given = []; tally = openedTally x }
 
 accepted-opening-is : (size : ℕ) (x : Opening) (w : Work) (list : List Entry) (store : List ℕ) → openVerdict size x list store ≡ 0
     → opened size x w list store ≡ opened-state x (length list) (length store)
@@ -43,7 +45,7 @@ unfolding openOf
 accepted-opening-is size x w list store e =
     let f : eqb (openVerdict size x list store) 0 ≡ true = eq-eqb _ _ e in
     let r : openOf size x w list store ≡ record { reply = Accepted; work = openWork x; list = replicate (length list) blank; store = zeros (length store) } = rw (f, openOf) in
-    ap (λ (o : Opened). record { work = o .work; list = o .list; store = o .store; page = openedPage x; given = []; tally = openedTally x }) r
+    ap (λ (o : Opened). record { work = o .work; list = o .list; store = o .store; page = openedPage x; told = toldOpening x; given = []; tally = openedTally x }) r
 
 laid-opened : (w : Work) (n m : ℕ) (p : List ℕ) → w .used ≡ 0 → w .filled ≡ 0 → w .count ≡ 0 → w .bytes ≡ 0 → w .low ≡ 0 → w .over ≡ 0 → Laid w (replicate n blank) (zeros m) p []
 unfolding total
@@ -110,25 +112,28 @@ module _ (size : ℕ) (q : PageSize size) (n m : ℕ) (right-room : roomRight si
 
     reached-with-base : Reached size (opened-state (with-base page sep cut key) n m)
     reached-with-base = record {
-      ops = [];
-      laid = l;
-      kept = record {
-        right-room = room-again;
-        room-list = rw (pending-opened, length-replicate n blank) (omega (arith, entries-enough, a-good-page-has-few-records size q page g));
-        room-store = rw (pending-opened, length-replicate {A = ℕ} m 0) (omega (arith, bytes-enough, values-of-a-good-page-are-no-longer-than-it size q page g));
-        base-right = λ y. rw (kept-key cut key) (lent-again-the-page-passes size q page sep (keyIf cut key) e);
-        rest-above = rw rest-opened (all-true (records page));
-        last-below = λ y. absurd (false≢true y);
-        cut-based = λ y. refl;
-        base-floor = λ y. refl;
-        no-cut = kept-key-absent cut key;
-        no-over = λ y. refl;
-        no-last = λ y. refl;
-        known-turn = refl;
-        flags = record { based = omega arith; cut = bit-small cut; over = omega arith; taken = omega arith };
-        keyed = record { latest = sep-long; cutoff = kept-key-long cut key key-long; overriding = refl; floor = sep-long; last = refl };
+      canonical = record {
+        ops = [];
+        laid = l;
+        kept = record {
+          right-room = room-again;
+          room-list = rw (pending-opened, length-replicate n blank) (omega (arith, entries-enough, a-good-page-has-few-records size q page g));
+          room-store = rw (pending-opened, length-replicate {A = ℕ} m 0) (omega (arith, bytes-enough, values-of-a-good-page-are-no-longer-than-it size q page g));
+          base-right = λ y. rw (kept-key cut key) (lent-again-the-page-passes size q page sep (keyIf cut key) e);
+          rest-above = rw rest-opened (all-true (records page));
+          last-below = λ y. absurd (false≢true y);
+          cut-based = λ y. refl;
+          base-floor = λ y. refl;
+          no-cut = kept-key-absent cut key;
+          no-over = λ y. refl;
+          no-last = λ y. refl;
+          known-turn = refl;
+          flags = record { based = omega arith; cut = bit-small cut; over = omega arith; taken = omega arith };
+          keyed = record { latest = sep-long; cutoff = kept-key-long cut key key-long; overriding = refl; floor = sep-long; last = refl };
+        };
+        invariant = rw opening-seen (opening-has-the-invariant size (some b) (base-is-good size q page sep (keyIf cut key) e));
       };
-      invariant = rw opening-seen (opening-has-the-invariant size (some b) (base-is-good size q page sep (keyIf cut key) e));
+      told = opening-is-told (with-base page sep cut key);
     }
       where
         all-true : (xs : List Record) → All (λ r. true ≡ true) xs
@@ -166,25 +171,28 @@ module _ (size : ℕ) (q : PageSize size) (n m : ℕ) (right-room : roomRight si
   reached-with-none : Reached size (opened-state (with-none false) n m)
   unfolding total
   reached-with-none = record {
-    ops = [];
-    laid = l₀;
-    kept = record {
-      right-room = room-again;
-      room-list = rw pending-none (omega arith);
-      room-store = rw pending-none (omega arith);
-      base-right = λ y. absurd (false≢true y);
-      rest-above = rw rest-none nil;
-      last-below = λ y. absurd (false≢true y);
-      cut-based = λ y. absurd (false≢true y);
-      base-floor = λ y. absurd (false≢true y);
-      no-cut = λ y. refl;
-      no-over = λ y. refl;
-      no-last = λ y. refl;
-      known-turn = refl;
-      flags = record { based = omega arith; cut = omega arith; over = omega arith; taken = omega arith };
-      keyed = record { latest = refl; cutoff = refl; overriding = refl; floor = refl; last = refl };
+    canonical = record {
+      ops = [];
+      laid = l₀;
+      kept = record {
+        right-room = room-again;
+        room-list = rw pending-none (omega arith);
+        room-store = rw pending-none (omega arith);
+        base-right = λ y. absurd (false≢true y);
+        rest-above = rw rest-none nil;
+        last-below = λ y. absurd (false≢true y);
+        cut-based = λ y. absurd (false≢true y);
+        base-floor = λ y. absurd (false≢true y);
+        no-cut = λ y. refl;
+        no-over = λ y. refl;
+        no-last = λ y. refl;
+        known-turn = refl;
+        flags = record { based = omega arith; cut = omega arith; over = omega arith; taken = omega arith };
+        keyed = record { latest = refl; cutoff = refl; overriding = refl; floor = refl; last = refl };
+      };
+      invariant = rw bare-opening-seen (opening-has-the-invariant size none refl);
     };
-    invariant = rw bare-opening-seen (opening-has-the-invariant size none refl);
+    told = opening-is-told (with-none false);
   }
 
 pub accepted-opening-reaches-a-state : (size : ℕ) → PageSize size → (x : Opening) → FormedOpening x → (w : Work) (list : List Entry) (store : List ℕ)

@@ -17,7 +17,7 @@ use Rattle.leaf_work.specs.Outcome.{TwinReply, nthPlace, twinOn, twinOf}
 use Rattle.leaf_work.proofs.Operations.{Op, Put, Keep, entriesOf, Within}
 use Rattle.leaf_work.proofs.Laid.{Laid, an-ignored-page-has-no-records, used-entries}
 use Rattle.leaf_claim.specs.Sequence.{State, lent, Answers, stop, more}
-use Rattle.leaf_claim.proofs.Reached.{Reached, regarded-lent, reached-state-earns-no-refusal}
+use Rattle.leaf_claim.proofs.Reached.{Reached, lent-is, regarded-lent, reached-state-earns-no-refusal}
 
 answers : (f : ℕ → TwinReply) (store page : List ℕ) (i : ℕ) (xs : List Place) → ((j : ℕ) → f (i + j) ≡ nthPlace j xs) → Answers f store page i (map (held store page) xs)
 answers f store page i [] h = stop (ap f (sym (add-zero i)) ∙ h 0)
@@ -56,7 +56,8 @@ module _ (size : ℕ) (s : State) (h : Reached size s) where
   pub twins-answer-the-pending-records : (any : List ℕ)
       → Answers (twinOf size w (s .list) (s .store) (lent s any)) (s .store) (lent s any) 0 (pendingOf w (s .list) (s .store) (regarded w (s .page)))
   twins-answer-the-pending-records any =
-      let e = held-same (readsBase w) (s .page) any (h .ops) (h .laid) in
+      let e : map (held (s .store) (lent s any)) (pendingPlaces w (s .list) (regarded w (s .page))) ≡ pendingOf w (s .list) (s .store) (regarded w (s .page)) =
+      rw (lent-is size s h any) (held-same (readsBase w) (s .page) any (h .canonical .ops) (h .canonical .laid)) in
       rw (← e)
       (answers (twinOf size w (s .list) (s .store) (lent s any)) (s .store) (lent s any) 0 (pendingPlaces w (s .list) (regarded w (s .page)))
       (λ j. twin-at j))
@@ -64,4 +65,4 @@ module _ (size : ℕ) (s : State) (h : Reached size s) where
       twin-at : (j : ℕ) → twinOf size w (s .list) (s .store) (lent s any) (0 + j) ≡ nthPlace j (pendingPlaces w (s .list) (regarded w (s .page)))
       twin-at j =
           let z : 0 + j ≡ j = omega arith in
-          rw (z, regarded-lent s any) (twin-on _ _ j (reached-state-earns-no-refusal size s h any))
+          rw (z, regarded-lent size s h any) (twin-on _ _ j (reached-state-earns-no-refusal size s h any))

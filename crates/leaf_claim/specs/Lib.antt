@@ -1,3 +1,4 @@
 -- Document 01, "The tally of demand 3": sequences of calls, and what is claimed of each.
+pub mod Told
 pub mod Sequence
 pub mod Claim

@@ -14,11 +14,12 @@ use Rattle.leaf_model.specs.Work.{Change, Leaf, isLinked}
 use Rattle.leaf_model.specs.Tally.{changed}
 use Rattle.leaf_work.specs.declared.Work.{Work}
 use Rattle.leaf_work.specs.declared.Entry.{Entry}
-use Rattle.leaf_work.specs.Lent.{readsBase}
+use Rattle.leaf_work.specs.Tests.{keyIf}
 use Rattle.leaf_work.specs.Pending.{Place, held}
 use Rattle.leaf_work.specs.Verdict.{Opening, with-base, with-none}
 use Rattle.leaf_work.specs.Outcome.{replyNumber, openOf, ingestNumber, ingestOf, nextBaseOf, removeCutoffOf, TwinReply, TwinRefused, Found}
 use Rattle.leaf_work.specs.Digest.{DigestReply, DigestRefused, Finished, Merge, digestNumber, digestOf}
+use Rattle.leaf_claim.specs.Told.{Told, readsPage, toldOpening, toldIngest, toldDigest, toldNextBase, toldRemoval}
 
 -- "Whatever else a call takes, beside work record, list and store, is any": `any` is the page that is lent where the work ignores it.
 pub data Call : Type 0 where
@@ -33,18 +34,20 @@ pub record Given : Type 0 where
   pub area : List ℕ
   pub tickets : List ℕ
 
--- work record, list and store as the last call left them; the base page; the accepted digests, earlier ones first; the tally
+-- Work record, list and store as the last call left them, which are only handed to the next one; the base page; what was told; the accepted
+-- digests, earlier ones first; the tally.
 pub record State : Type 0 where
   pub work : Work
   pub list : List Entry
   pub store : List ℕ
   pub page : List ℕ
+  pub told : Told
   pub given : List Given
   pub tally : List Record
 
 -- "The base page of a call is the page of the opening or of the last accepted next base; any page where the work ignores it."
 abbrev pub lent : State → List ℕ → List ℕ
-lent s any = cond (readsBase (s .work)) (s .page) any
+lent s any = cond (readsPage (s .told)) (s .page) any
 
 -- ---- the tally: "It is fed only the calls (key, new value and flag, or page) and whether each was refused."
 
@@ -77,20 +80,38 @@ answered size s remove-cutoff = replyNumber (removeCutoffOf size (s .work) (s .l
 abbrev pub isTaken : ℕ → State → Call → Bool
 isTaken size s x = eqb (answered size s x) accepted
 
+-- what an accepted digest gave, as it left it; any other call gives nothing
+abbrev pub gives : ℕ → State → Call → List Given
+gives size s (ingest any k c) = []
+gives size s (digest any area tickets) =
+    let r = digestOf size (s .work) (s .list) (s .store) (lent s any) area tickets in givenBy (r .reply) (r .area) (r .tickets)
+gives size s (next-base page separator cut cutoff) = []
+gives size s remove-cutoff = []
+
 abbrev pub next : ℕ → State → Call → State
 next size s (ingest any k c) =
     let r = ingestOf size (s .work) (s .list) (s .store) (lent s any) k c in
+    let taken = isTaken size s (ingest any k c) in
     record {
       work = r .work;
       list = r .list;
       store = r .store;
       page = s .page;
+      told = cond taken (toldIngest k (s .told)) (s .told);
       given = s .given;
-      tally = fed (ingest any k c) (isTaken size s (ingest any k c)) (s .tally);
+      tally = fed (ingest any k c) taken (s .tally);
     }
 next size s (digest any area tickets) =
     let r = digestOf size (s .work) (s .list) (s .store) (lent s any) area tickets in
-    record { work = r .work; list = r .list; store = r .store; page = s .page; given = s .given ++ givenBy (r .reply) (r .area) (r .tickets); tally = s .tally }
+    record {
+      work = r .work;
+      list = r .list;
+      store = r .store;
+      page = s .page;
+      told = toldDigest (r .reply) (r .tickets) (s .told);
+      given = s .given ++ gives size s (digest any area tickets);
+      tally = s .tally;
+    }
 next size s (next-base page separator cut cutoff) =
     let r = nextBaseOf size (s .work) (s .list) (s .store) page separator cut cutoff in
     let taken = isTaken size s (next-base page separator cut cutoff) in
@@ -99,11 +120,20 @@ next size s (next-base page separator cut cutoff) =
       list = s .list;
       store = s .store;
       page = cond taken page (s .page);
+      told = cond taken (toldNextBase separator (keyIf cut cutoff) (s .told)) (s .told);
       given = s .given;
       tally = fed (next-base page separator cut cutoff) taken (s .tally);
     }
 next size s remove-cutoff =
-    record { work = removeCutoffOf size (s .work) (s .list) (s .store) .work; list = s .list; store = s .store; page = s .page; given = s .given; tally = s .tally }
+    record {
+      work = removeCutoffOf size (s .work) (s .list) (s .store) .work;
+      list = s .list;
+      store = s .store;
+      page = s .page;
+      told = cond (isTaken size s remove-cutoff) (toldRemoval (s .told)) (s .told);
+      given = s .given;
+      tally = s .tally;
+    }
 
 abbrev pub nexts : ℕ → State → List Call → State
 nexts size s [] = s
@@ -117,7 +147,31 @@ openedPage (with-none cut) = []
 abbrev pub opened : ℕ → Opening → Work → List Entry → List ℕ → State
 opened size x w list store =
     let r = openOf size x w list store in
-    record { work = r .work; list = r .list; store = r .store; page = openedPage x; given = []; tally = openedTally x }
+    record { work = r .work; list = r .list; store = r .store; page = openedPage x; told = toldOpening x; given = []; tally = openedTally x }
+
+-- ---- a whole sequence: the state that it leaves, and what happened
+
+-- a call: what it was lent and what was told before it, the number that it answered, what it gave
+pub record Happened : Type 0 where
+  pub before : State
+  pub call : Call
+  pub answer : ℕ
+  pub gave : List Given
+
+-- earlier calls first
+pub record Course : Type 0 where
+  pub now : State
+  pub past : List Happened
+
+abbrev pub happens : ℕ → State → Call → Happened
+happens size s x = record { before = s; call = x; answer = answered size s x; gave = gives size s x }
+
+abbrev pub happenings : ℕ → State → List Call → List Happened
+happenings size s [] = []
+happenings size s (x ∷ xs) = happens size s x ∷ happenings size (next size s x) xs
+
+abbrev pub courseOf : ℕ → State → List Call → Course
+courseOf size s xs = record { now = nexts size s xs; past = happenings size s xs }
 
 -- ---- "Leaves given out are the first pages of an accepted digest's area, as many as it answers, with their tickets, as it leaves them"
 
