@@ -162,6 +162,7 @@ typedef struct {
     uint8_t flag;
     size_t offset;
     size_t len;
+    size_t position; /* where an absent key would stand: the record before it is position - 1, the one behind it position; else 0 */
 } LeafValue;
 
 typedef struct {
@@ -295,7 +296,8 @@ LeafKey leaf_page_key(const uint8_t *page, size_t page_len, size_t i);
 LeafValue leaf_page_value(const uint8_t *page, size_t page_len, size_t i);
 
 /*
- * The value of a key in the page, or absent.
+ * The value of a key in the page, or absent, with the position at which the key would stand, 0 to the number of records: the records
+ * before it have smaller keys, those from it on greater ones. leaf_page_key answers those neighbours.
  * Refuses by: 1 to 5.
  * Stack: 320 bytes.
  */

@@ -122,6 +122,8 @@ pub struct LeafValue {
     pub flag: u8,
     pub offset: usize,
     pub len: usize,
+    /// Where an absent key would stand: the record before it is `position - 1`, the one behind it `position`; else 0.
+    pub position: usize,
 }
 
 /// Bytes of values of a page.

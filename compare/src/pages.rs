@@ -147,6 +147,7 @@ const fn refused(refusal: u8) -> LeafValue {
         flag: 0,
         offset: 0,
         len: 0,
+        position: 0,
     }
 }
 
@@ -182,6 +183,16 @@ fn cell(node: &LeafNode, value: (&[u8], bool)) -> LeafValue {
         flag: value.1.into(),
         offset: value.0.as_ptr() as usize - node.inner.as_ptr() as usize,
         len: value.0.len(),
+        position: 0,
+    }
+}
+
+/// Where an absent key would stand: the `Err(i)` of the search that `LeafNode::get` makes and does not hand on.
+pub fn position(node: &LeafNode, key: &Key) -> usize {
+    let pointers: Vec<usize> = (0..node.n()).collect();
+    match pointers.binary_search_by(|&i| node.key(i).cmp(key)) {
+        Ok(_) => unreachable!("the Rust finds no such key"),
+        Err(i) => i,
     }
 }
 
@@ -224,6 +235,7 @@ fn check_gets(
             Some(value) => cell(node, value),
             None => LeafValue {
                 absent: 1,
+                position: position(node, &key),
                 ..refused(0)
             },
         };

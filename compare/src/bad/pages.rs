@@ -101,7 +101,7 @@ impl OnPage<'_> {
             key: key.unwrap_or_default(),
         };
         self.same("page key", &inputs, lent.key(i), due, due.refusal)?;
-        let due = cell(page::value(self.page, i).map(Some));
+        let due = cell(page::value(self.page, i).map(Ok));
         self.same("page value", &inputs, lent.value(i), due, due.refusal)?;
         let near = key.unwrap_or(rng.key());
         let key = [near, near, above(&near), below(&near), rng.key()][rng.between(0, 4)];
@@ -138,18 +138,19 @@ fn refusal<T>(answer: Result<T, u8>) -> u8 {
     answer.err().unwrap_or(0)
 }
 
-/// A value as the calls answer it; a refusal's other fields, and an absent one's, are zeros.
-fn cell(answer: Result<Option<(usize, usize, bool)>, u8>) -> LeafValue {
+/// A value as the calls answer it; a refusal's other fields are zeros, and an absent one's but its position.
+fn cell(answer: Result<Result<(usize, usize, bool), usize>, u8>) -> LeafValue {
     match answer {
         Err(refusal) => LeafValue {
             refusal,
             ..LeafValue::default()
         },
-        Ok(None) => LeafValue {
+        Ok(Err(position)) => LeafValue {
             absent: 1,
+            position,
             ..LeafValue::default()
         },
-        Ok(Some((offset, len, flag))) => LeafValue {
+        Ok(Ok((offset, len, flag))) => LeafValue {
             flag: flag.into(),
             offset,
             len,

@@ -102,10 +102,12 @@ pub fn values_size(page: &[u8], from: usize, to: usize) -> Result<usize, u8> {
     Ok(value_bytes(page, from, to))
 }
 
-pub fn get(page: &[u8], key: &Key) -> Result<Option<(usize, usize, bool)>, u8> {
+/// The value of a key, or the position at which it would stand: as many keys are smaller.
+pub fn get(page: &[u8], key: &Key) -> Result<Result<(usize, usize, bool), usize>, u8> {
     good(page)?;
     let found = (0..count(page)).find(|&i| key_of(page, i) == *key);
-    Ok(found.map(|i| cell(page, i)))
+    let smaller = || (0..count(page)).filter(|&i| key_of(page, i) < *key).count();
+    Ok(found.map(|i| cell(page, i)).ok_or_else(smaller))
 }
 
 /// The page of the records from..to in the first 4,096 bytes of `out`. Where it is built by cells and where by a chunk, `mid` says; the page

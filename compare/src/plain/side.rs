@@ -79,7 +79,7 @@ fn on_page(call: &Call) -> Answer {
         Call::PageValuesSize { page, from, to } => {
             page::values_size(page, *from, *to).map(Answer::Size)
         }
-        Call::PageGet { page, key } => page::get(page, key).map(Answer::Cell),
+        Call::PageGet { page, key } => page::get(page, key).map(|found| Answer::Cell(found.ok())),
         Call::Separate { a, b } => page::separate(a, b).map(Answer::Key),
         _ => unreachable!("`answer` runs the calls on a work"),
     };

@@ -1,12 +1,12 @@
 //! The files `pages` and `builds`.
 //!
-//! `pages`: records of 5,921 bytes, a page, its refusal, and questions with the Rust's answers.
+//! `pages`: records of 5,969 bytes, a page, its refusal, and questions with the Rust's answers.
 //!
 //! | bytes | what |
 //! |---|---|
 //! | 0 to 4095 | the page |
 //! | 4096 | the page's refusal, 0 for a good one |
-//! | 4097 to 5920 | 24 questions of 76 bytes |
+//! | 4097 to 5968 | 24 questions of 78 bytes |
 //!
 //! A question; numbers have two bytes, low byte first, and what a call doesn't take or answer is zero:
 //!
@@ -17,7 +17,8 @@
 //! | 5 to 36 | the key that `get` looks for |
 //! | 37, 38, 39 | the answer: refusal; 1 for absent; flag |
 //! | 40, 41 and 42, 43 | offset, and length or sum of lengths |
-//! | 44 to 75 | the key that was read |
+//! | 44, 45 | the position at which an absent key would stand |
+//! | 46 to 77 | the key that was read |
 //!
 //! `builds`: records of 8,198 bytes: a good page; three numbers, from, mid and to; and the page that the Rust builds of the
 //! records from..to, those before mid by cells, the others as a chunk, its gap cleared.
@@ -27,13 +28,13 @@ use crate::oracle::beatree::leaf::node::LeafNode;
 use crate::oracle::io::PagePool;
 use crate::oracle::Key;
 use crate::ours::pages::NO_SUCH_INDEX;
-use crate::pages::{build, made, node_of, plain_check};
+use crate::pages::{build, made, node_of, plain_check, position};
 use crate::rng::Rng;
 
 pub const RECORD: usize = 4096 + 1 + QUESTIONS * QUESTION;
 pub const BUILD_RECORD: usize = 4096 + 6 + 4096;
 const QUESTIONS: usize = 24;
-const QUESTION: usize = 76;
+const QUESTION: usize = 78;
 
 /// The pages to ask of: good ones of several counts, and a damaged copy of some.
 pub fn page_records() -> Vec<u8> {
@@ -82,6 +83,7 @@ struct Question {
     flag: bool,
     offset: usize,
     len: usize,
+    position: usize,
     read: Key,
 }
 
@@ -114,7 +116,10 @@ impl Question {
             }
             3 => match node.get(&self.sought) {
                 Some(value) => self.found(node, value),
-                None => self.absent = true,
+                None => {
+                    self.absent = true;
+                    self.position = position(node, &self.sought);
+                }
             },
             _ => self.refusal = NO_SUCH_INDEX,
         }
@@ -134,6 +139,7 @@ impl Question {
         bytes.extend([self.refusal, self.absent.into(), self.flag.into()]);
         push_number(bytes, self.offset);
         push_number(bytes, self.len);
+        push_number(bytes, self.position);
         bytes.extend_from_slice(&self.read);
     }
 }

@@ -10,12 +10,12 @@ use Rattle.leaf_node.specs.declared.Place.{Place}
 use Rattle.leaf_node.specs.declared.Place.the-variants.{Found, Absent}
 use Rattle.leaf_node.specs.Record.{total}
 use Rattle.leaf_node.specs.Page.{count, run, recordsBetween, valuesSize}
-use Rattle.leaf_node.specs.Search.{placeFrom, searchOf}
+use Rattle.leaf_node.specs.Search.{placeFrom, searchOf, placeIndex, isFound}
 use Rattle.leaf_node.specs.Steps.{Laid, Sorted, Readable}
 use Rattle.leaf_work.specs.declared.Work.{Work}
 use Rattle.leaf_work.specs.Tests.{bit}
 use Rattle.leaf_work.specs.TakingUp.{stop, drops}
-use Rattle.leaf_work.proofs.Searching.{Split, the-search-splits-the-rest}
+use Rattle.leaf_work.proofs.Searching.{stop-is, drops-is, Split, the-search-splits-the-rest}
 use Rattle.leaf_ingest.specs.declared.Kept.{Kept}
 use Rattle.leaf_ingest.specs.Steps.{Base, KeptAt, Taken}
 
@@ -23,26 +23,6 @@ pub kept-to-the-stop : (page : List ℕ) (n low stop : ℕ) (dropped : Bool) (b 
     → y ≤ length page → KeptAt page n low stop dropped (record { stop = stop; dropped = dropped; low = stop + b; taken = x; rest = y })
 kept-to-the-stop page n low stop dropped b x y e f g h i =
     record { stop-is = refl; dropped-is = refl; low-is = rw e; taken-is = f; rest-is = rw e at h; taken-few = g; rest-few = i }
-
--- ---- the answer of the search
-
-told : Place → Bool
-told (Found i) = true
-told (Absent i) = false
-
-index : Place → ℕ
-index (Found i) = i
-index (Absent i) = i
-
-found : (t : Bool) (r i : ℕ) → cond t (Found r) (Absent r) ≡ Found i → (t ≡ true) × (r ≡ i)
-unfolding told index
-found true r i e = (refl, ap index e)
-found false r i e = (ap told e, ap index e)
-
-absent : (t : Bool) (r i : ℕ) → cond t (Found r) (Absent r) ≡ Absent i → (t ≡ false) × (r ≡ i)
-unfolding told index
-absent true r i e = (ap told e, ap index e)
-absent false r i e = (refl, ap index e)
 
 empty-range : (page : List ℕ) (from to : ℕ) → to ≤ from → valuesSize page from to ≡ 0
 unfolding valuesSize recordsBetween run total
@@ -52,10 +32,6 @@ module _ (w : Work) (page k : List ℕ) (n : ℕ) (b : Base w page n) where
   split : Split w page k
   split = the-search-splits-the-rest w page k (omega (arith, b .low-in, b .counted))
 
-  place-is : searchOf page (w .low) k ≡ cond (drops w page k) (Found (stop w page k)) (Absent (stop w page k))
-  unfolding searchOf drops stop
-  place-is = refl
-
   -- ---- nothing is left of the base
 
   module _ (h : n ≤ w .low) where
@@ -63,12 +39,11 @@ module _ (w : Work) (page k : List ℕ) (n : ℕ) (b : Base w page n) where
     none-left = omega (arith, b .counted)
 
     stopped : stop w page k ≡ w .low
-    unfolding stop placeFrom
-    stopped = rw none-left
+    unfolding placeFrom
+    stopped = stop-is w page k ∙ rw none-left
 
     undropped : drops w page k ≡ false
-    unfolding drops
-    undropped = rw (le-ltb (stop w page k) (count page) (omega (arith, stopped, b .counted)))
+    undropped = drops-is w page k ∙ rw (← stop-is w page k, le-ltb (stop w page k) (count page) (omega (arith, stopped, b .counted)))
 
     pub an-end-keeps-nothing : Taken w page k (record { stop = w .low; dropped = false; low = w .low; taken = 0; rest = 0 })
     an-end-keeps-nothing =
@@ -98,7 +73,8 @@ module _ (w : Work) (page k : List ℕ) (n : ℕ) (b : Base w page n) where
     module _ (s : Place) (e : s ≡ searchOf page (w .low) k) (i : ℕ) where
       module _ (f : s ≡ Found i) where
         hit : (drops w page k ≡ true) × (stop w page k ≡ i)
-        hit = found (drops w page k) (stop w page k) i (sym place-is ∙ sym e ∙ f)
+        unfolding drops stop
+        hit = (ap isFound (sym e ∙ f), ap placeIndex (sym e ∙ f))
 
         pub a-found-key-is-no-earlier : w .low ≤ i
         a-found-key-is-no-earlier = omega (arith, split .from, hit .1)
@@ -131,7 +107,8 @@ module _ (w : Work) (page k : List ℕ) (n : ℕ) (b : Base w page n) where
 
       module _ (f : s ≡ Absent i) where
         miss : (drops w page k ≡ false) × (stop w page k ≡ i)
-        miss = absent (drops w page k) (stop w page k) i (sym place-is ∙ sym e ∙ f)
+        unfolding drops stop
+        miss = (ap isFound (sym e ∙ f), ap placeIndex (sym e ∙ f))
 
         pub an-absent-key-is-no-earlier : w .low ≤ i
         an-absent-key-is-no-earlier = omega (arith, split .from, miss .1)

@@ -392,7 +392,7 @@ module _ (size : ℕ) (p : List ℕ) (s : PageSize size) (g : Good size p) where
   fitting-run m i e =
       all-run (Fitting size) m i (recordAt p) (λ j a b. omega (arith, value-length p (count p) (good-pages-are-laid size p s g) j (omega arith), g .values j (omega arith)))
 
-  rise-run : (m i : ℕ) → i + m ≤ count p → Rising (run m i (recordAt p))
+  pub rise-run : (m i : ℕ) → i + m ≤ count p → Rising (run m i (recordAt p))
   unfolding run recordAt
   rise-run zero i e = rise[]
   rise-run (suc m) i e =

@@ -19,7 +19,7 @@ use Rattle.leaf_node.specs.declared.Place.the-variants.{Found, Absent}
 use Rattle.leaf_node.specs.Limits.{PageSize}
 use Rattle.leaf_node.specs.Page.{count, pointer, keyAt}
 use Rattle.leaf_node.specs.Good.{KeysRise, Good}
-use Rattle.leaf_node.specs.Search.{placeFrom, searchOf}
+use Rattle.leaf_node.specs.Search.{placeFrom, searchOf, placeIndex, isFound}
 use Rattle.leaf_node.specs.Steps.{Sorted}
 use Rattle.leaf_node.proofs.Rules.{both}
 use Rattle.leaf_node.proofs.Reading.{pointers-inside}
@@ -145,37 +145,52 @@ module _ (p : List ℕ) (n from : ℕ) (k : List ℕ) (r : ℕ) (c : n ≡ count
 
 -- ---- what the place says of the page's keys
 
-index : Place → ℕ
-index (Found i) = i
-index (Absent i) = i
-
-hit : Place → Bool
-hit (Found i) = true
-hit (Absent i) = false
-
-told : (t : Bool) (r : ℕ) → (index (cond t (Found r) (Absent r)) ≡ r) × (hit (cond t (Found r) (Absent r)) ≡ t)
-unfolding index hit
+told : (t : Bool) (r : ℕ) → (placeIndex (cond t (Found r) (Absent r)) ≡ r) × (isFound (cond t (Found r) (Absent r)) ≡ t)
 told true r = (refl, refl)
 told false r = (refl, refl)
 
+module _ (p : List ℕ) (from : ℕ) (k : List ℕ) where
+  pub index-of-the-search : placeIndex (searchOf p from k) ≡ placeFrom p (count p - from) from k
+  unfolding searchOf
+  index-of-the-search = let r : ℕ = placeFrom p (count p - from) from k in told (ltb r (count p) && eqKey (keyAt p r) k) r .0
+
+  pub hit-of-the-search : isFound (searchOf p from k)
+      ≡ (ltb (placeFrom p (count p - from) from k) (count p) && eqKey (keyAt p (placeFrom p (count p - from) from k)) k)
+  unfolding searchOf
+  hit-of-the-search = let r : ℕ = placeFrom p (count p - from) from k in told (ltb r (count p) && eqKey (keyAt p r) k) r .1
+
+  -- a search from further on comes to the same place, where the records that it passes over are below the key
+  pub a-search-from-further-on-agrees : from ≤ count p → ((j : ℕ) → j < from → num (keyAt p j) < num k) → searchOf p from k ≡ searchOf p 0 k
+  unfolding searchOf
+  a-search-from-further-on-agrees l h =
+      let a : Parts p k from (from + (count p - from)) (placeFrom p (count p - from) from k) = place-parts p k (count p - from) from in
+      let b : Parts p k 0 (0 + (count p - 0)) (placeFrom p (count p - from) from k) = record {
+        low = omega arith;
+        high = omega (arith, a .high);
+        below = λ j x y. elim (decLt j from) [ yes z ↦ h j z | no z ↦ a .below j (omega arith) y ];
+        at = λ x. a .at (omega arith);
+      } in
+      let e : placeFrom p (count p - from) from k ≡ placeFrom p (count p - 0) 0 k = parts-one p k 0 (0 + (count p - 0)) _ _ b (place-parts p k (count p - 0) 0) in
+      ap (λ (i : ℕ). cond (ltb i (count p) && eqKey (keyAt p i) k) (Found i) (Absent i)) e
+
 module _ (p : List ℕ) (from : ℕ) (k : List ℕ) (i : ℕ) where
   pub found-is : searchOf p from k ≡ Found i → (placeFrom p (count p - from) from k ≡ i) × (i < count p) × (num (keyAt p i) ≡ num k)
-  unfolding searchOf eqKey index hit
+  unfolding searchOf eqKey
   found-is e =
       let r : ℕ = placeFrom p (count p - from) from k in
       let t = told (ltb r (count p) && eqb (num (keyAt p r)) (num k)) r in
-      let z : r ≡ i = sym (t .0) ∙ ap index e in
-      let y : (ltb r (count p) && eqb (num (keyAt p r)) (num k)) ≡ true = sym (t .1) ∙ ap hit e in
+      let z : r ≡ i = sym (t .0) ∙ ap placeIndex e in
+      let y : (ltb r (count p) && eqb (num (keyAt p r)) (num k)) ≡ true = sym (t .1) ∙ ap isFound e in
       let b = both (ltb r (count p)) (eqb (num (keyAt p r)) (num k)) y in
       (z, rw z at (ltb-true r (count p) (b .0)), rw z at (eqb-true (num (keyAt p r)) (num k) (b .1)))
 
   absent-is : searchOf p from k ≡ Absent i → (placeFrom p (count p - from) from k ≡ i) × (i < count p → num (keyAt p i) ≡ num k → ⊥)
-  unfolding searchOf eqKey index hit
+  unfolding searchOf eqKey
   absent-is e =
       let r : ℕ = placeFrom p (count p - from) from k in
       let t = told (ltb r (count p) && eqb (num (keyAt p r)) (num k)) r in
-      let z : r ≡ i = sym (t .0) ∙ ap index e in
-      let y : (ltb r (count p) && eqb (num (keyAt p r)) (num k)) ≡ false = sym (t .1) ∙ ap hit e in
+      let z : r ≡ i = sym (t .0) ∙ ap placeIndex e in
+      let y : (ltb r (count p) && eqb (num (keyAt p r)) (num k)) ≡ false = sym (t .1) ∙ ap isFound e in
       (z, λ l q. differ r z y l q)
     where
       differ : (r : ℕ) → r ≡ i → (ltb r (count p) && eqb (num (keyAt p r)) (num k)) ≡ false → i < count p → num (keyAt p i) ≡ num k → ⊥
@@ -208,6 +223,9 @@ module _ (size : ℕ) (p : List ℕ) (s : PageSize size) (g : Good size p) (from
   module _ (e : searchOf p from k ≡ Absent i) where
     absent-parts : Parts p k from (from + (count p - from)) i
     absent-parts = rw (absent-is p from k i e .0) at (place-parts p k (count p - from) from)
+
+    pub an-absent-key-stands-at-the-end-at-most : from ≤ count p → i ≤ count p
+    an-absent-key-stands-at-the-end-at-most l = omega (arith, absent-parts .high)
 
     pub records-before-an-absent-key-are-below-it : (j : ℕ) → from ≤ j → j < i → num (keyAt p j) < num k
     records-before-an-absent-key-are-below-it = absent-parts .below

@@ -1,6 +1,6 @@
 -- Document 01, "The three modules", No. 2, `get`: the one key search of a page.
 use Prim.Native.Nat.{ℕ, zero, suc, _-_}
-use mathlib.Core.Bool.{true, false, cond, _&&_}
+use mathlib.Core.Bool.{Bool, true, false, cond, _&&_}
 use mathlib.Core.List.{List}
 use lib.Dec.{ltb}
 use Rattle.bit_ops.specs.Key.{ltKey, eqKey}
@@ -18,3 +18,12 @@ unfoldable pub searchOf : List ℕ → ℕ → List ℕ → Place
 searchOf p from k =
     let i : ℕ = placeFrom p (count p - from) from k in
     cond (ltb i (count p) && eqKey (keyAt p i) k) (Found i) (Absent i)
+
+-- the index of a place, and whether the key stands there
+abbrev pub placeIndex : Place → ℕ
+placeIndex (Found i) = i
+placeIndex (Absent i) = i
+
+abbrev pub isFound : Place → Bool
+isFound (Found i) = true
+isFound (Absent i) = false

@@ -20,8 +20,8 @@ value-found r c v e q = rw (e, q)
 pub get-refused : (r : GetReply) (n : ℕ) (v : LeafValue) → r ≡ get.Refused n → v ≡ refusedValue n → v ≡ getOut r
 get-refused r n v e q = rw (e, q)
 
-pub get-absent : (r : GetReply) → r ≡ get.Absent → record { refusal = 0; absent = 1; flag = 0; offset = 0; len = 0 } ≡ getOut r
-get-absent r e = rw e
+pub get-absent : (r : GetReply) (i : ℕ) → r ≡ get.Absent i → record { refusal = 0; absent = 1; flag = 0; offset = 0; len = 0; position = i } ≡ getOut r
+get-absent r i e = rw e
 
 pub get-found : (r : GetReply) (c : Cell) (v : LeafValue) → r ≡ get.At c → v ≡ foundValue c → v ≡ getOut r
 get-found r c v e q = rw (e, q)

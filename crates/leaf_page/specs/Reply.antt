@@ -18,18 +18,19 @@ keyOut r = record { refusal = r .refusal; key = r .key }
 
 -- a refusal: its number, and zeros in every other field
 abbrev pub refusedValue : ℕ → LeafValue
-refusedValue n = record { refusal = n; absent = 0; flag = 0; offset = 0; len = 0 }
+refusedValue n = record { refusal = n; absent = 0; flag = 0; offset = 0; len = 0; position = 0 }
 
 abbrev pub foundValue : Cell → LeafValue
-foundValue c = record { refusal = 0; absent = 0; flag = cond (c .flag) 1 0; offset = c .offset; len = c .len }
+foundValue c = record { refusal = 0; absent = 0; flag = cond (c .flag) 1 0; offset = c .offset; len = c .len; position = 0 }
 
 abbrev pub valueOut : ValueReply → LeafValue
 valueOut (value.Refused n) = refusedValue n
 valueOut (value.At c) = foundValue c
 
+-- document 02, M-102: an absent key's position; a refusal and a found key have none
 abbrev pub getOut : GetReply → LeafValue
 getOut (get.Refused n) = refusedValue n
-getOut get.Absent = record { refusal = 0; absent = 1; flag = 0; offset = 0; len = 0 }
+getOut (get.Absent i) = record { refusal = 0; absent = 1; flag = 0; offset = 0; len = 0; position = i }
 getOut (get.At c) = foundValue c
 
 abbrev pub sizeOut : SizeReply → LeafSize

@@ -24,6 +24,8 @@ pub struct LeafValue {
     pub flag: u8,
     pub offset: usize,
     pub len: usize,
+    // where an absent key would stand: the record before it is position - 1, the one behind it position; else 0
+    pub position: usize,
 }
 
 #[repr(C)]
@@ -65,6 +67,7 @@ fn refused_value(n: u8) -> LeafValue
         flag: 0,
         offset: 0,
         len: 0,
+        position: 0,
     }
 }
 
@@ -77,6 +80,7 @@ fn found_value(c: Cell) -> LeafValue
         flag: bit(c.flag),
         offset: c.offset,
         len: c.len,
+        position: 0,
     }
 }
 
@@ -101,18 +105,19 @@ fn get_out(reply: GetReply) -> LeafValue
 {
     match reply {
         GetReply::Refused(n) => refused_value(n),
-        GetReply::Absent => LeafValue {
+        GetReply::Absent(i) => LeafValue {
             refusal: 0,
             absent: 1,
             flag: 0,
             offset: 0,
             len: 0,
+            position: i,
         },
         GetReply::At(c) => found_value(c),
     }
 }
 
-// The value of a key in a page, or absent.
+// The value of a key in a page, or absent, with the position at which it would stand.
 pub fn get(page: &[u8], key: &[u8; 32]) -> LeafValue
     ensures { λ r. ⌜ r ≡ getOut (getReply 4096 (now (page .entry)) (now (key .entry))) ⌝ }
 {

@@ -164,5 +164,5 @@ module _ (p : List ℕ) (n : ℕ) (k : List ℕ) (s : Place) (e : s ≡ searchOf
   pub find-some : (c : Cell) → s ≡ Found i → c ≡ cellAt p i → get.At c ≡ getOf p (searchOf p 0 k)
   find-some c q r = rw (← e, q, r)
 
-  pub find-none : s ≡ Absent i → get.Absent ≡ getOf p (searchOf p 0 k)
+  pub find-none : s ≡ Absent i → get.Absent i ≡ getOf p (searchOf p 0 k)
   find-none q = rw (← e, q)

@@ -39,10 +39,11 @@ valueReply size p i = cond (eqb (indexVerdict size p i) 0) (value.At (cellAt p i
 unfoldable pub sizeReply : ℕ → List ℕ → ℕ → ℕ → SizeReply
 sizeReply size p from to = cond (eqb (rangeVerdict size p from to) 0) (sizes.Bytes (valuesSize p from to)) (sizes.Refused (rangeVerdict size p from to))
 
--- "`get` as a value"; "an absent key in `get` is the plain reply "absent""
+-- "`get` as a value"; "an absent key in `get` is the plain reply "absent"". Document 02, M-102: "Lookup's "absent" gains the position at which the
+-- key would stand, 0 to n."
 abbrev pub getOf : List ℕ → Place → GetReply
 getOf p (Found i) = get.At (cellAt p i)
-getOf p (Absent i) = get.Absent
+getOf p (Absent i) = get.Absent i
 
 unfoldable pub getReply : ℕ → List ℕ → List ℕ → GetReply
 getReply size p k = cond (eqb (pageVerdict size p) 0) (getOf p (searchOf p 0 k)) (get.Refused (pageVerdict size p))
@@ -54,7 +55,7 @@ valueNumber (value.At c) = accepted
 
 abbrev pub getNumber : GetReply → ℕ
 getNumber (get.Refused n) = n
-getNumber get.Absent = accepted
+getNumber (get.Absent i) = accepted
 getNumber (get.At c) = accepted
 
 abbrev pub sizeNumber : SizeReply → ℕ

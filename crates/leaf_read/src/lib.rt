@@ -32,7 +32,8 @@ pub enum ValueReply {
 
 pub enum GetReply {
     Refused(u8),
-    Absent,
+    // with the position at which the key would stand, 0 to n
+    Absent(usize),
     At(Cell),
 }
 
@@ -116,7 +117,7 @@ pub fn values_size(page: &[u8], from: usize, to: usize) -> SizeReply
 
 // ---- reading by key
 
-// The value of a key in a page with n records.
+// The value of a key in a page with n records, or the position at which it would stand.
 fn find(page: &[u8], n: usize, key: &[u8]) -> GetReply
     requires { ⌜ (Laid (now page) n) × (Sorted (now page) n) × (length (now key) ≡ 32) ⌝ }
     ensures { λ r. ⌜ r ≡ getOf (now (page .entry)) (searchOf (now (page .entry)) 0 (now (key .entry))) ⌝ }
@@ -124,11 +125,11 @@ fn find(page: &[u8], n: usize, key: &[u8]) -> GetReply
     let place = search(page, n, 0, key);
     match place {
         Place::Found(i) => GetReply::At(cell_at(page, i)),
-        Place::Absent(_) => GetReply::Absent,
+        Place::Absent(i) => GetReply::Absent(i),
     }
 }
 
-// The value of a key.
+// The value of a key, or the position at which it would stand.
 pub fn get(page: &[u8], key: &[u8; 32]) -> GetReply
     ensures { λ r. ⌜ r ≡ getReply 4096 (now (page .entry)) (now (key .entry)) ⌝ }
     ensures { λ r. ⌜ getNumber r ≡ pageVerdict 4096 (now (page .entry)) ⌝ }

@@ -6,7 +6,7 @@ use Rattle.leaf_node.specs.Limits.{bodyLimit, recordLimit, valueLimit, mergeBel
 use Rattle.leaf_node.specs.Record.{values, total}
 use Rattle.leaf_node.specs.Page.{word, count, keyAt, numberAt, flagAt, offsetAt, start, lengthAt, valueAt, recordAt, run, recordsBetween, records, valuesSize}
 use Rattle.leaf_node.specs.Good.{allBelow, offsetStep, offsetInside, offsetsRight, valueFits, valuesFit, keyStep, keysRise, pageVerdict}
-use Rattle.leaf_node.specs.Search.{placeFrom}
+use Rattle.leaf_node.specs.Search.{placeFrom, searchOf}
 use Rattle.leaf_node.specs.Build.{le16, tagged, pointers, build}
 use Rattle.leaf_model.specs.Cut.{targetOf, cut, cutAll}
 use Rattle.leaf_model.specs.Work.{plan}
@@ -19,7 +19,7 @@ use Rattle.leaf_work.specs.Digest.{digestOn}
 use Rattle.leaf_trials.specs.Trials.{WithoutBase, UnderCutoff, BeforeBase, Trials, OtherTrials}
 
 starred-without-base : WithoutBase
-unfolding num bytesOf ltKey eqKey shared sharedBits leading separateOf bodyLimit recordLimit valueLimit mergeBelow bulkAbove bulkTarget values total word count keyAt numberAt flagAt offsetAt start lengthAt valueAt recordAt run recordsBetween records valuesSize allBelow offsetStep offsetInside offsetsRight valueFits valuesFit keyStep keysRise pageVerdict placeFrom le16 tagged pointers build targetOf cut cutAll plan held inBase chunkPlaces entryPlaces sound stop drops baseVerdict keysVerdict lentVerdict openVerdict ingestVerdict digestVerdict openOf ingestOn digestOn
+unfolding num bytesOf ltKey eqKey shared sharedBits leading separateOf bodyLimit recordLimit valueLimit mergeBelow bulkAbove bulkTarget values total word count keyAt numberAt flagAt offsetAt start lengthAt valueAt recordAt run recordsBetween records valuesSize allBelow offsetStep offsetInside offsetsRight valueFits valuesFit keyStep keysRise pageVerdict placeFrom searchOf le16 tagged pointers build targetOf cut cutAll plan held inBase chunkPlaces entryPlaces sound stop drops baseVerdict keysVerdict lentVerdict openVerdict ingestVerdict digestVerdict openOf ingestOn digestOn
 starred-without-base = record {
   empty = refl;
   empty-number = refl;
@@ -44,7 +44,7 @@ starred-without-base = record {
 }
 
 starred-under-cutoff : UnderCutoff
-unfolding num bytesOf ltKey eqKey shared sharedBits leading separateOf bodyLimit recordLimit valueLimit mergeBelow bulkAbove bulkTarget values total word count keyAt numberAt flagAt offsetAt start lengthAt valueAt recordAt run recordsBetween records valuesSize allBelow offsetStep offsetInside offsetsRight valueFits valuesFit keyStep keysRise pageVerdict placeFrom le16 tagged pointers build targetOf cut cutAll plan held inBase chunkPlaces entryPlaces sound stop drops baseVerdict keysVerdict lentVerdict openVerdict ingestVerdict digestVerdict openOf ingestOn digestOn
+unfolding num bytesOf ltKey eqKey shared sharedBits leading separateOf bodyLimit recordLimit valueLimit mergeBelow bulkAbove bulkTarget values total word count keyAt numberAt flagAt offsetAt start lengthAt valueAt recordAt run recordsBetween records valuesSize allBelow offsetStep offsetInside offsetsRight valueFits valuesFit keyStep keysRise pageVerdict placeFrom searchOf le16 tagged pointers build targetOf cut cutAll plan held inBase chunkPlaces entryPlaces sound stop drops baseVerdict keysVerdict lentVerdict openVerdict ingestVerdict digestVerdict openOf ingestOn digestOn
 starred-under-cutoff = record {
   leaf-of-2047 = refl;
   merge-of-2046 = refl;
@@ -53,7 +53,7 @@ starred-under-cutoff = record {
 }
 
 starred-before-base : BeforeBase
-unfolding num bytesOf ltKey eqKey shared sharedBits leading separateOf bodyLimit recordLimit valueLimit mergeBelow bulkAbove bulkTarget values total word count keyAt numberAt flagAt offsetAt start lengthAt valueAt recordAt run recordsBetween records valuesSize allBelow offsetStep offsetInside offsetsRight valueFits valuesFit keyStep keysRise pageVerdict placeFrom le16 tagged pointers build targetOf cut cutAll plan held inBase chunkPlaces entryPlaces sound stop drops baseVerdict keysVerdict lentVerdict openVerdict ingestVerdict digestVerdict openOf ingestOn digestOn
+unfolding num bytesOf ltKey eqKey shared sharedBits leading separateOf bodyLimit recordLimit valueLimit mergeBelow bulkAbove bulkTarget values total word count keyAt numberAt flagAt offsetAt start lengthAt valueAt recordAt run recordsBetween records valuesSize allBelow offsetStep offsetInside offsetsRight valueFits valuesFit keyStep keysRise pageVerdict placeFrom searchOf le16 tagged pointers build targetOf cut cutAll plan held inBase chunkPlaces entryPlaces sound stop drops baseVerdict keysVerdict lentVerdict openVerdict ingestVerdict digestVerdict openOf ingestOn digestOn
 starred-before-base = record {
   two-before-a-base = refl;
   body-4092 = refl;
@@ -63,7 +63,7 @@ pub the-starred-trials-hold : Trials
 the-starred-trials-hold = record { without-base = starred-without-base; under-cutoff = starred-under-cutoff; before-base = starred-before-base }
 
 pub the-other-trials-hold : OtherTrials
-unfolding num bytesOf ltKey eqKey shared sharedBits leading separateOf bodyLimit recordLimit valueLimit mergeBelow bulkAbove bulkTarget values total word count keyAt numberAt flagAt offsetAt start lengthAt valueAt recordAt run recordsBetween records valuesSize allBelow offsetStep offsetInside offsetsRight valueFits valuesFit keyStep keysRise pageVerdict placeFrom le16 tagged pointers build targetOf cut cutAll plan held inBase chunkPlaces entryPlaces sound stop drops baseVerdict keysVerdict lentVerdict openVerdict ingestVerdict digestVerdict openOf ingestOn digestOn twinOn
+unfolding num bytesOf ltKey eqKey shared sharedBits leading separateOf bodyLimit recordLimit valueLimit mergeBelow bulkAbove bulkTarget values total word count keyAt numberAt flagAt offsetAt start lengthAt valueAt recordAt run recordsBetween records valuesSize allBelow offsetStep offsetInside offsetsRight valueFits valuesFit keyStep keysRise pageVerdict placeFrom searchOf le16 tagged pointers build targetOf cut cutAll plan held inBase chunkPlaces entryPlaces sound stop drops baseVerdict keysVerdict lentVerdict openVerdict ingestVerdict digestVerdict openOf ingestOn digestOn twinOn
 the-other-trials-hold = record {
   first-deleted = refl;
   second-deleted = refl;

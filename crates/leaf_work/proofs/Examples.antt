@@ -13,7 +13,7 @@ use Rattle.leaf_node.specs.Limits.{bodyLimit, recordLimit, valueLimit, mergeBel
 use Rattle.leaf_node.specs.Record.{Record, values, total}
 use Rattle.leaf_node.specs.Page.{word, count, keyAt, numberAt, flagAt, offsetAt, start, lengthAt, valueAt, recordAt, run, recordsBetween, records, valuesSize}
 use Rattle.leaf_node.specs.Good.{allBelow, offsetStep, offsetInside, offsetsRight, valueFits, valuesFit, keyStep, keysRise, pageVerdict}
-use Rattle.leaf_node.specs.Search.{placeFrom}
+use Rattle.leaf_node.specs.Search.{placeFrom, searchOf}
 use Rattle.leaf_node.specs.Build.{le16, tagged, pointers, build}
 use Rattle.leaf_model.specs.Cut.{Cut, targetOf, cut, cutAll}
 use Rattle.leaf_model.specs.Work.{Leaf, zeroKey, plan, leavesBy}
@@ -82,7 +82,7 @@ pub record Replies : Type 0 where
   pub removal-when-done : removeCutoffOf size (ends .work) (ends .list) (ends .store) .reply ≡ Refused 9
 
 pub replies-of-a-merge : Replies
-unfolding num bytesOf ltKey eqKey shared sharedBits leading separateOf bodyLimit recordLimit valueLimit mergeBelow bulkAbove bulkTarget values total word count keyAt numberAt flagAt offsetAt start lengthAt valueAt recordAt run recordsBetween records valuesSize allBelow offsetStep offsetInside offsetsRight valueFits valuesFit keyStep keysRise pageVerdict placeFrom le16 tagged pointers build targetOf cut cutAll plan held inBase chunkPlaces entryPlaces sound stop drops baseVerdict keysVerdict lentVerdict openVerdict ingestVerdict digestVerdict nextBaseVerdict removeVerdict openOf ingestOn digestOn nextBaseOf removeCutoffOf
+unfolding num bytesOf ltKey eqKey shared sharedBits leading separateOf bodyLimit recordLimit valueLimit mergeBelow bulkAbove bulkTarget values total word count keyAt numberAt flagAt offsetAt start lengthAt valueAt recordAt run recordsBetween records valuesSize allBelow offsetStep offsetInside offsetsRight valueFits valuesFit keyStep keysRise pageVerdict placeFrom searchOf le16 tagged pointers build targetOf cut cutAll plan held inBase chunkPlaces entryPlaces sound stop drops baseVerdict keysVerdict lentVerdict openVerdict ingestVerdict digestVerdict nextBaseVerdict removeVerdict openOf ingestOn digestOn nextBaseOf removeCutoffOf
 replies-of-a-merge = record {
   opening-is-accepted = refl;
   first-digest = refl;
@@ -100,7 +100,7 @@ pub record Leaves : Type 0 where
   pub page-after-removal : ends .area ≡ build size (recordOf 10 5 ∷ recordOf 20 6 ∷ [])
 
 pub leaves-of-a-merge : Leaves
-unfolding num bytesOf ltKey eqKey shared sharedBits leading separateOf bodyLimit recordLimit valueLimit mergeBelow bulkAbove bulkTarget values total word count keyAt numberAt flagAt offsetAt start lengthAt valueAt recordAt run recordsBetween records valuesSize allBelow offsetStep offsetInside offsetsRight valueFits valuesFit keyStep keysRise pageVerdict placeFrom le16 tagged pointers build targetOf cut cutAll plan held inBase chunkPlaces entryPlaces sound stop drops baseVerdict keysVerdict lentVerdict openVerdict ingestVerdict digestVerdict nextBaseVerdict removeVerdict openOf ingestOn digestOn nextBaseOf removeCutoffOf
+unfolding num bytesOf ltKey eqKey shared sharedBits leading separateOf bodyLimit recordLimit valueLimit mergeBelow bulkAbove bulkTarget values total word count keyAt numberAt flagAt offsetAt start lengthAt valueAt recordAt run recordsBetween records valuesSize allBelow offsetStep offsetInside offsetsRight valueFits valuesFit keyStep keysRise pageVerdict placeFrom searchOf le16 tagged pointers build targetOf cut cutAll plan held inBase chunkPlaces entryPlaces sound stop drops baseVerdict keysVerdict lentVerdict openVerdict ingestVerdict digestVerdict nextBaseVerdict removeVerdict openOf ingestOn digestOn nextBaseOf removeCutoffOf
 leaves-of-a-merge = record {
   it-writes-nothing = refl;
   joined-page = refl;
@@ -118,7 +118,7 @@ pub record Keeps : Type 0 where
   pub key-at : ingestOf size open-again (waits .list) (waits .store) [] (keyOf 50) none .reply ≡ Quiet
 
 pub what-a-merge-keeps : Keeps
-unfolding num bytesOf ltKey eqKey shared sharedBits leading separateOf bodyLimit recordLimit valueLimit mergeBelow bulkAbove bulkTarget values total word count keyAt numberAt flagAt offsetAt start lengthAt valueAt recordAt run recordsBetween records valuesSize allBelow offsetStep offsetInside offsetsRight valueFits valuesFit keyStep keysRise pageVerdict placeFrom le16 tagged pointers build targetOf cut cutAll plan held inBase chunkPlaces entryPlaces sound stop drops baseVerdict keysVerdict lentVerdict openVerdict ingestVerdict digestVerdict nextBaseVerdict removeVerdict openOf ingestOn digestOn nextBaseOf removeCutoffOf
+unfolding num bytesOf ltKey eqKey shared sharedBits leading separateOf bodyLimit recordLimit valueLimit mergeBelow bulkAbove bulkTarget values total word count keyAt numberAt flagAt offsetAt start lengthAt valueAt recordAt run recordsBetween records valuesSize allBelow offsetStep offsetInside offsetsRight valueFits valuesFit keyStep keysRise pageVerdict placeFrom searchOf le16 tagged pointers build targetOf cut cutAll plan held inBase chunkPlaces entryPlaces sound stop drops baseVerdict keysVerdict lentVerdict openVerdict ingestVerdict digestVerdict nextBaseVerdict removeVerdict openOf ingestOn digestOn nextBaseOf removeCutoffOf
 what-a-merge-keeps = record {
   it-keeps-inserts = refl;
   its-floor = refl;

@@ -11,6 +11,7 @@ use Rattle.bit_ops.specs.Key.{num, ltKey, eqKey}
 use Rattle.leaf_node.specs.Record.{Record}
 use Rattle.leaf_node.specs.Page.{count, keyAt, recordAt, run, recordsBetween}
 use Rattle.leaf_node.specs.Search.{placeFrom}
+use Rattle.leaf_node.proofs.Searches.{index-of-the-search, hit-of-the-search}
 use Rattle.leaf_model.specs.Work.{recordsBelow, recordsAbove}
 use Rattle.leaf_work.specs.declared.Work.{Work}
 use Rattle.leaf_work.specs.Tests.{bit}
@@ -25,7 +26,7 @@ equal-either-way a b = go (eqb (num b) (num a)) refl
     go false e = rw e (ne-eqb (num a) (num b) (λ q. eqb-false _ _ e (sym q)))
 
 -- record i is there and has the key k
-abbrev matches : List ℕ → List ℕ → ℕ → Bool
+abbrev pub matches : List ℕ → List ℕ → ℕ → Bool
 matches k p i = ltb i (count p) && eqKey (keyAt p i) k
 
 record Sought (k p : List ℕ) (i n s : ℕ) : Type 0 where
@@ -95,6 +96,20 @@ module _ (k p : List ℕ) where
       go h true f = rw (f, placeFrom) (sought-below i n e (placeFrom p n (suc i) k) f h)
       go h false f = rw (f, placeFrom) (sought-here i n e f)
 
+-- ---- `stop` and `drops`, read off the search
+
+module _ (w : Work) (p k : List ℕ) where
+  abbrev place : ℕ
+  place = placeFrom p (count p - w .low) (w .low) k
+
+  pub stop-is : stop w p k ≡ place
+  unfolding stop
+  stop-is = index-of-the-search p (w .low) k
+
+  pub drops-is : drops w p k ≡ matches k p place
+  unfolding drops
+  drops-is = hit-of-the-search p (w .low) k
+
 -- what an ingest takes up and leaves of the base's rest is what the model does
 pub record Split (w : Work) (p k : List ℕ) : Type 0 where
   pub from : w .low ≤ stop w p k
@@ -104,7 +119,15 @@ pub record Split (w : Work) (p k : List ℕ) : Type 0 where
   pub above : restAfter w p k ≡ recordsAbove k (recordsBetween p (w .low) (count p))
 
 pub the-search-splits-the-rest : (w : Work) (p k : List ℕ) → w .low ≤ count p → Split w p k
-unfolding stop drops recordsBetween
+unfolding recordsBetween
 the-search-splits-the-rest w p k h =
     let s = sought k p (w .low) (count p - w .low) (omega arith) in
-    record { from = s .from; to = omega arith; upto = omega (arith, s .upto); below = s .below; above = s .above }
+    let a = stop-is w p k in
+    let b = drops-is w p k in
+    record {
+      from = rw a (s .from);
+      to = omega arith;
+      upto = rw (a, b) (omega (arith, s .upto));
+      below = rw a (s .below);
+      above = rw (a, b) (s .above);
+    }

@@ -5,10 +5,9 @@ use mathlib.Core.List.{List, [], _∷_, _++_}
 use Prim.Native.Nat.{ℕ, _+_, _-_}
 use lib.Dec.{ltb}
 use lib.ListN.{length}
-use Rattle.bit_ops.specs.Key.{eqKey}
 use Rattle.leaf_node.specs.Record.{Record, total}
-use Rattle.leaf_node.specs.Page.{count, keyAt, flagAt, recordsBetween, valuesSize}
-use Rattle.leaf_node.specs.Search.{placeFrom}
+use Rattle.leaf_node.specs.Page.{count, flagAt, recordsBetween, valuesSize}
+use Rattle.leaf_node.specs.Search.{searchOf, placeIndex, isFound}
 use Rattle.leaf_model.specs.Work.{Change, inserted}
 use Rattle.leaf_work.specs.declared.Work.{Work}
 use Rattle.leaf_work.specs.declared.Entry.{Entry}
@@ -45,12 +44,11 @@ entriesWith w k stop sum c = chunkEntries (w .low) stop sum ++ insertEntries (w 
 module _ (w : Work) (page k : List ℕ) where
   -- "Base records below the key become pending": up to `stop`. The search is that of `get`, from `low` on.
   unfoldable pub stop : ℕ
-  stop = placeFrom page (count page - w .low) (w .low) k
+  stop = placeIndex (searchOf page (w .low) k)
 
   -- "an equal one is dropped"
   unfoldable pub drops : Bool
-  unfolding stop
-  drops = ltb stop (count page) && eqKey (keyAt page stop) k
+  drops = isFound (searchOf page (w .low) k)
 
   abbrev pub lowAfter : ℕ
   lowAfter = stop + bit drops

@@ -1,4 +1,4 @@
-// The page calls against records of 5,921 bytes: a page, its refusal, 24 questions of 76 bytes with their answers; and the
+// The page calls against records of 5,969 bytes: a page, its refusal, 24 questions of 78 bytes with their answers; and the
 // builder against records of 8,198 bytes: a page, a range in two parts, the page that is built of it.
 use crate::bytes::byte;
 use crate::bytes::key;
@@ -17,7 +17,7 @@ fn same_value(v: &[u8], q: usize, r: LeafValue) -> bool
 {
     let said = (r.refusal == byte(v, q + 37)) & (r.absent == byte(v, q + 38));
     let place = (r.offset == number(v, q + 40)) & (r.len == number(v, q + 42));
-    said & ((r.flag == byte(v, q + 39)) & place)
+    said & ((r.flag == byte(v, q + 39)) & (place & (r.position == number(v, q + 44))))
 }
 
 fn same_key_read(page: &[u8], v: &[u8], q: usize) -> bool
@@ -25,7 +25,7 @@ fn same_key_read(page: &[u8], v: &[u8], q: usize) -> bool
 {
     let r = leaf_page::key(page, number(v, q + 1));
     let key = r.key;
-    (r.refusal == byte(v, q + 37)) & same_key(v, q + 44, &key)
+    (r.refusal == byte(v, q + 37)) & same_key(v, q + 46, &key)
 }
 
 fn same_size(page: &[u8], v: &[u8], q: usize) -> bool
@@ -58,7 +58,7 @@ fn ask_all(page: &[u8], v: &[u8], t: Score) -> Score {
     let mut out = t.count(leaf_node::check(page) == byte(v, 4096));
     let mut i = 0;
     while i < QUESTIONS {
-        out = out.count(passes(page, v, 4097 + 76 * i));
+        out = out.count(passes(page, v, 4097 + 78 * i));
         i += 1;
     }
     out
@@ -66,9 +66,9 @@ fn ask_all(page: &[u8], v: &[u8], t: Score) -> Score {
 
 // The next record of the file.
 pub(crate) fn next(fd: i32, t: Score) -> Score {
-    let mut v = [0u8; 5921];
+    let mut v = [0u8; 5969];
     let n = io::read_full(fd, &mut v);
-    if n != 5921 {
+    if n != 5969 {
         return t.end(n);
     }
     let whole = &v[..];

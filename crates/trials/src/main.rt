@@ -1,5 +1,5 @@
 // Document 01, "Bench trials", through the proved calls: a line for each trial with what came out, and whether that is
-// what the paper states. A star marks the trials of the proved table.
+// what the paper states. A star marks the trials of the proved table. Then trials of document 02's requests.
 mod digests;
 mod keys;
 mod line;
@@ -14,4 +14,6 @@ fn main() {
     pages::run();
     works::run();
     digests::run();
+    line::say(b"\nDocument 02\n\n");
+    pages::positions();
 }

@@ -3,6 +3,7 @@ use crate::line::close;
 use crate::line::say;
 use crate::line::say_hex;
 use crate::line::say_reply;
+use libc::STDOUT_FILENO;
 ghost use Prim.Native.Nat.{_<_};
 
 fn put(page: &mut [u8; 4096], at: usize, x: u8) {
@@ -95,6 +96,18 @@ fn number_trial(label: &[u8], high: u8) {
     close(is_built(cell, high) & is_built(chunk, high));
 }
 
+// Where a key that no record has would stand among n records whose first key bytes are 0 to n - 1.
+fn position_trial(label: &[u8], n: u8, first: u8, position: usize) {
+    say(label);
+    let mut key = [0u8; 32];
+    key[0] = first;
+    key[31] = 1;
+    let reply = leaf_page::get(&empty_values(n), &key);
+    say(b"absent, position ");
+    io::print_decimal(STDOUT_FILENO, reply.position as u64);
+    close((reply.refusal == 0) & ((reply.absent == 1) & (reply.position == position)));
+}
+
 pub(crate) fn run() {
     number_trial(b"* one empty value, number bytes              ", 0x10);
     number_trial(b"* the same, flagged                          ", 0x90);
@@ -102,4 +115,16 @@ pub(crate) fn run() {
     count_trial(b"  page with n 121                            ", 121, 2);
     value_trial(b"  page value of 1,332                        ", 0xcc, 0);
     value_trial(b"  page value of 1,333                        ", 0xcb, 4);
+}
+
+// Document 02, M-102.
+pub(crate) fn positions() {
+    position_trial(b"M-102: absent key in an empty page           ", 0, 5, 0);
+    position_trial(b"M-102: absent key between records 5 and 6    ", 120, 5, 6);
+    position_trial(
+        b"M-102: absent key behind 120 records         ",
+        120,
+        200,
+        120,
+    );
 }

@@ -11,11 +11,11 @@ enum-known-reply c = search needs
 refused-value-requires : tie.Need-refused-value-requires
 refused-value-requires c κs = search needs
 
-enum-told : tie.Need-enum-told
-enum-told c = search needs
-
 enum-known-reply-2 : tie.Need-enum-known-reply-2
 enum-known-reply-2 c = search needs
+
+enum-known-reply-3 : tie.Need-enum-known-reply-3
+enum-known-reply-3 c = search needs
 
 found-value-requires : tie.Need-found-value-requires
 found-value-requires c κs = search needs
@@ -35,8 +35,8 @@ get-out-spec =
     (tie.spec
     enum-known-reply
     refused-value-requires
-    enum-told
     enum-known-reply-2
+    enum-known-reply-3
     found-value-requires
     returns
     returns-2

@@ -14,8 +14,8 @@ enum-known-place c = search needs
 cell-at-requires : tie.Need-cell-at-requires
 cell-at-requires c κs = search (find-there, needs)
 
-enum-told : tie.Need-enum-told
-enum-told c = search needs
+enum-known-place-2 : tie.Need-enum-known-place-2
+enum-known-place-2 c = search needs
 
 returns : tie.Need-returns
 returns c = search (find-some, needs)
@@ -26,4 +26,4 @@ returns-2 c = search (find-none, needs)
 pub find-spec : {M : Type 1} → statement M
 find-spec =
     tie.close
-    (tie.spec search-requires enum-known-place cell-at-requires enum-told returns returns-2)
+    (tie.spec search-requires enum-known-place cell-at-requires enum-known-place-2 returns returns-2)
