@@ -38,7 +38,11 @@ put-stands d at s h =
     let l : length (take at d) ≡ at = length-take-le at d h in
     rw (append-assoc (take at d) s (drop (at + length s) d), drop-at (take at d) (s ++ drop (at + length s) d) at l) (take-append-seam s (drop (at + length s) d))
 
-put-parts : (d : List ℕ) (at : ℕ) (s : List ℕ) → put d at s ≡ take at d ++ (s ++ drop (at + length s) d)
+pub put-is : (d : List ℕ) (at : ℕ) (s : List ℕ) → put d at s ≡ (take at d ++ s) ++ drop (at + length s) d
+unfolding put
+put-is d at s = refl
+
+pub put-parts : (d : List ℕ) (at : ℕ) (s : List ℕ) → put d at s ≡ take at d ++ (s ++ drop (at + length s) d)
 unfolding put
 put-parts d at s = append-assoc (take at d) s (drop (at + length s) d)
 

@@ -1,24 +1,22 @@
--- A chunk's pointers: copied in one piece, and their numbers shifted where the values move. Assumes nothing.
+-- A chunk's pointers, each written a single time with its final number. Assumes nothing.
 use Prim.Native.Nat.{ℕ, _+_, _-_, _*_, _%_, _≤_, _<_}
-use mathlib.Core.Path.{_≡_, refl, sym, ap, _∙_}
-use mathlib.Core.List.{List, _++_}
+use mathlib.Core.Path.{_≡_, refl, sym, ap, _∙_, subst}
+use mathlib.Core.List.{List, _++_, append-assoc}
 use native.Mathlib.Omega.{arith}
 use native.Mathlib.Decide.{decLe}
 use lib.Dec.{leb}
-use lib.ListN.{length, take, drop, length-take, length-drop}
-use lib.Seq.{take-take, drop-drop}
+use lib.ListN.{length, take, drop, length-append, length-take, length-drop, take-append-drop}
+use lib.Seq.{length-take-le, take-at, drop-at, drop-drop}
 use borrow.Author.Tests.{le-leb, lt-leb}
-use Rattle.bit_ops.specs.Key.{Bytes}
-use Rattle.leaf_node.specs.Page.{count, pointer, keyAt, numberAt, offsetAt, flagAt, start, recordsBetween}
+use Rattle.leaf_node.specs.Page.{count, pointer, keyAt, numberAt, offsetAt, flagAt, start, recordAt, recordsBetween}
 use Rattle.leaf_node.specs.Build.{le16, tagged, pointers, put}
-use Rattle.leaf_node.proofs.Lengths.{length-pointers}
+use Rattle.leaf_node.proofs.Lengths.{length-pointers, pointers-append, run-append}
 use Rattle.leaf_node.proofs.Laying.{keys-have-32-bytes, range-length}
-use Rattle.leaf_node.proofs.RoundTrips.{pointers-of-a-range-are-one-part}
-use Rattle.leaf_builder.specs.Steps.{Shift, Chunk, Copied}
-use Rattle.leaf_builder.proofs.Putting.{take-drop, length-put, put-same, put-stands, put-over, put-put, put-swap}
-use Rattle.leaf_builder.proofs.Writing.{pointers-more}
+use Rattle.leaf_builder.specs.Steps.{Shift, Chunk, pointerMoved, PointersUpTo}
+use Rattle.leaf_builder.proofs.Putting.{length-put, put-stands, put-put, put-is, put-parts}
+use Rattle.leaf_builder.proofs.Writing.{pointers-start, pointers-more}
 
--- ---- a number that is shifted: its top bit stays
+-- ---- one pointer: the number is shifted as a whole, so that its top bit stays
 
 number-shifted : (w at first : ℕ) → w < 65536 → first ≤ w % 32768 → at + (w % 32768 - first) < 32768 → w + at - first ≡ tagged (at + (w % 32768 - first)) (leb 32768 w)
 unfolding tagged
@@ -27,88 +25,81 @@ number-shifted w at first h l m = elim (decLe 32768 w) [
   | no k ↦ let s : w < 32768 = omega arith in rw (lt-leb 32768 w s) (omega arith)
 ]
 
-pub shifted-number-put : (p d y : List ℕ) (i place first at w : ℕ) → Shift p i (length d) place first at → w ≡ numberAt p i → w < 65536 → y ≡ put d place (le16 (w + at - first))
-    → y ≡ put d place (le16 (tagged (at + (offsetAt p i - first)) (flagAt p i)))
+pub key-has-32-bytes : (p : List ℕ) (i m place first at : ℕ) → Shift p i m place first at → length (keyAt p i) ≡ 32
+unfolding keyAt
+key-has-32-bytes p i m place first at s = simp (length-take, length-drop) (omega (arith, s .inside))
+
+pub pointer-put : (p d k x y : List ℕ) (i place first at w : ℕ) → Shift p i (length d) place first at → k ≡ keyAt p i → x ≡ put d place k → w ≡ numberAt p i → w < 65536
+    → y ≡ put x (place + 32) (le16 (w + at - first)) → y ≡ put d place (pointerMoved p i first at)
 unfolding offsetAt flagAt
-shifted-number-put p d y i place first at w s ew h ey =
+pointer-put p d k x y i place first at w s ek ex ew h ey =
     let n : w + at - first ≡ tagged (at + (numberAt p i % 32768 - first)) (leb 32768 (numberAt p i)) =
     number-shifted w at first h (omega (arith, s .order)) (omega (arith, s .small)) ∙ rw ew in
-    rw (ey, n)
+    let number : List ℕ = le16 (tagged (at + (offsetAt p i - first)) (flagAt p i)) in
+    let lk : length (keyAt p i) ≡ 32 = key-has-32-bytes p i (length d) place first at s in
+    ey ∙ rw (n, ex, ek) (put-put d place (keyAt p i) (place + 32) number (omega arith) (omega (arith, s .room)))
 
--- ---- numbers behind keys that stand there already
+-- ---- the pointers of the records before i
 
--- m bytes, k bytes behind the start of two parts that are the same
-part-of-a-part : (x y : List ℕ) (a b n k m : ℕ) → take n (drop a x) ≡ take n (drop b y) → k + m ≤ n → take m (drop (a + k) x) ≡ take m (drop (b + k) y)
-part-of-a-part x y a b n k m e h = sym (inner x a) ∙ ap (λ (l : List ℕ). take m (drop k l)) e ∙ inner y b
-  where
-    inner : (z : List ℕ) (c : ℕ) → take m (drop k (take n (drop c z))) ≡ take m (drop (c + k) z)
-    inner z c =
-        let f : k + (n - k) ≡ n = omega arith in
-        let t : take (n - k) (drop k (drop c z)) ≡ drop k (take n (drop c z)) = take-drop k (n - k) (drop c z) ∙ ap (λ (i : ℕ). drop k (take i (drop c z))) f in
-        rw (← t, take-take m (n - k) (drop k (drop c z)) (omega arith), drop-drop k c z)
+module _ (p d : List ℕ) (from to j at : ℕ) (c : Chunk p from to (length d) j at) (i : ℕ) (h : from ≤ i) (l : i ≤ to) where
+  pointers-long : length (pointers at (recordsBetween p from i)) ≡ 34 * (i - from)
+  pointers-long =
+      length-pointers at (keys-have-32-bytes p (count p) (c .laid) from i h (omega (arith, c .there)))
+      ∙ ap (λ (n : ℕ). 34 * n) (range-length p (count p) (c .laid) from i h (omega (arith, c .there)))
 
-module _ (p d : List ℕ) (from to j at : ℕ) (c : Chunk p from to (length d) j at) (s : Copied p from to d j) (i : ℕ) (h : from ≤ i) (l : i < to) where
-  key-stands : (b : ℕ) → b ≡ pointer (j + (i - from)) → take 32 (drop b d) ≡ keyAt p i
-  unfolding keyAt
-  key-stands b e =
-      let u : b ≡ pointer j + 34 * (i - from) = omega arith in
-      let v : pointer i ≡ pointer from + 34 * (i - from) = omega arith in
-      rw (u, v) (part-of-a-part d p (pointer j) (pointer from) (34 * (to - from)) (34 * (i - from)) 32 (s .same) (omega arith))
+  records-split : recordsBetween p from to ≡ recordsBetween p from i ++ recordsBetween p i to
+  unfolding recordsBetween
+  records-split =
+      let a : to - from ≡ i - from + (to - i) = omega arith in
+      let b : from + (i - from) ≡ i = omega arith in
+      rw a (run-append (i - from) (to - i) from (recordAt p) ∙ rw b)
 
-  key-long : length (keyAt p i) ≡ 32
-  unfolding keyAt
-  key-long = simp (length-take, length-drop) (omega (arith, c .laid .inside, c .there))
+  -- "final": they are the first ones of the finished page
+  pub pointers-before-are-final : take (34 * (i - from)) (pointers at (recordsBetween p from to)) ≡ pointers at (recordsBetween p from i)
+  pointers-before-are-final =
+      rw (records-split, pointers-append at (recordsBetween p from i) (recordsBetween p i to)) (take-at (pointers at (recordsBetween p from i)) _ (34 * (i - from)) pointers-long)
 
-  pub numbers-more : (x y : List ℕ) (place first : ℕ) → place ≡ pointer (j + (i - from)) + 32 → first ≡ start p from
-      → x ≡ put d (pointer j) (pointers at (recordsBetween p from i))
-      → y ≡ put x place (le16 (tagged (at + (offsetAt p i - first)) (flagAt p i)))
-      → y ≡ put d (pointer j) (pointers at (recordsBetween p from (i + 1)))
-  numbers-more x y place first ep ef ex ey =
-      let b : ℕ = pointer (j + (i - from)) in
-      let before : List ℕ = pointers at (recordsBetween p from i) in
-      let number : List ℕ = le16 (tagged (at + (offsetAt p i - first)) (flagAt p i)) in
-      let lk = key-long in
-      let lb : length before ≡ 34 * (i - from) =
-      length-pointers at (keys-have-32-bytes p (count p) (c .laid) from i h (omega (arith, c .there))) ∙ ap (λ (n : ℕ). 34 * n) (range-length p (count p) (c .laid) from i h (omega (arith, c .there))) in
-      let kept : put d b (keyAt p i) ≡ d = put-same d b (keyAt p i) (rw lk (key-stands b refl)) in
-      let swapped : put (put d b (keyAt p i)) (pointer j) before ≡ put (put d (pointer j) before) b (keyAt p i) =
-      put-swap d (pointer j) before b (keyAt p i) (omega arith) (omega (arith, c .room, c .fits)) in
-      let same : put x b (keyAt p i) ≡ x = rw ex (sym swapped ∙ ap (λ z. put z (pointer j) before) kept) in
-      let lx : length x ≡ length d = rw ex (length-put d (pointer j) before (omega (arith, c .room, c .fits))) in
-      let joined : put (put x b (keyAt p i)) place number ≡ put x b (keyAt p i ++ number) = put-put x b (keyAt p i) place number (omega arith) (omega (arith, c .room, c .fits)) in
-      pointers-more p d x y from to j at i b first c h l refl ef ex (ey ∙ ap (λ z. put z place number) (sym same) ∙ joined)
-
--- ---- the copy
-
-module _ (p d x v : List ℕ) (from to j at : ℕ) (c : Chunk p from to (length d) j at) (ev : v ≡ take (34 * to + 2 - (34 * from + 2)) (drop (34 * from + 2) p))
-    (ex : x ≡ put d (34 * j + 2) v) where
-  part-is : v ≡ take (34 * (to - from)) (drop (pointer from) p)
-  part-is = let n : 34 * to + 2 - (34 * from + 2) ≡ 34 * (to - from) = omega (arith, c .order) in ev ∙ ap (λ (k : ℕ). take k (drop (34 * from + 2) p)) n
-
-  part-long : length v ≡ 34 * (to - from)
-  part-long = rw part-is (simp (length-take, length-drop) (omega (arith, c .laid .inside, c .there, c .order)))
-
-  room : pointer j + 34 * (to - from) ≤ length d
+  room : pointer j + 34 * (i - from) ≤ length d
   room = omega (arith, c .room, c .fits)
 
-  pub copy-long : length x ≡ length d
-  copy-long = rw ex (length-put d (34 * j + 2) v (omega (arith, room, part-long)))
+  pub put-is-up-to : (x : List ℕ) → x ≡ put d (pointer j) (pointers at (recordsBetween p from i)) → PointersUpTo p from to j at d i x
+  put-is-up-to x e =
+      let s : List ℕ = pointers at (recordsBetween p from i) in
+      let r = pointers-long in
+      let front : length (take (pointer j) d) ≡ pointer j = length-take-le (pointer j) d (omega (arith, room)) in
+      let behind : length (take (pointer j) d ++ s) ≡ pointer (j + (i - from)) = simp length-append (omega arith) in
+      let b : pointer j + length s ≡ pointer (j + (i - from)) = omega arith in
+      record {
+        final = rw pointers-before-are-final (ap (λ (n : ℕ). take n (drop (pointer j) x)) (sym r) ∙ rw e (put-stands d (pointer j) s (omega (arith, room))));
+        later = rw e (ap (drop (pointer (j + (i - from)))) (put-is d (pointer j) s) ∙ drop-at (take (pointer j) d ++ s) (drop (pointer j + length s) d) (pointer (j + (i - from))) behind ∙ rw b);
+        earlier = rw (e, put-parts d (pointer j) s) (take-at (take (pointer j) d) (s ++ drop (pointer j + length s) d) (pointer j) front);
+        same-length = rw e (length-put d (pointer j) s (omega (arith, room)));
+      }
 
-  pub copy-copied : Copied p from to x j
-  copy-copied =
-      record { same = ap (λ (n : ℕ). take n (drop (pointer j) x)) (sym part-long) ∙ rw ex (put-stands d (34 * j + 2) v (omega (arith, room))) ∙ part-is }
+  pub up-to-is-put : (x : List ℕ) → PointersUpTo p from to j at d i x → x ≡ put d (pointer j) (pointers at (recordsBetween p from i))
+  up-to-is-put x u =
+      let s : List ℕ = pointers at (recordsBetween p from i) in
+      let n : ℕ = 34 * (i - from) in
+      let r = pointers-long in
+      let b : pointer j + n ≡ pointer (j + (i - from)) = omega arith in
+      let final : take n (drop (pointer j) x) ≡ s = u .final ∙ pointers-before-are-final in
+      let later : drop n (drop (pointer j) x) ≡ drop (pointer j + length s) d = drop-drop n (pointer j) x ∙ rw b (u .later ∙ rw (← b, r)) in
+      let whole : take (pointer j) x ++ (take n (drop (pointer j) x) ++ drop n (drop (pointer j) x)) ≡ x = rw (take-append-drop n (drop (pointer j) x)) (take-append-drop (pointer j) x) in
+      sym whole ∙ rw (final, later, u .earlier) (sym (put-parts d (pointer j) s))
 
-  pub copy-chunk : Chunk p from to (length x) j at
-  copy-chunk = rw copy-long c
+-- ---- the loop
 
-  -- values that stay
-  pub copy-is-all : (first : ℕ) → first ≡ start p from → first ≡ at → Bytes p → x ≡ put d (pointer j) (pointers at (recordsBetween p from to))
-  copy-is-all first ef ea bytes =
-      ex ∙ rw (← ea, ef) (ap (put d (34 * j + 2)) (part-is ∙ sym (pointers-of-a-range-are-one-part p (count p) (c .laid) bytes from to (c .order) (c .there))))
+pub no-pointer-yet : (p d : List ℕ) (from to j at : ℕ) → Chunk p from to (length d) j at → PointersUpTo p from to j at d from d
+no-pointer-yet p d from to j at c = put-is-up-to p d from to j at c from (omega arith) (c .order) d (pointers-start p d from j at)
 
-  -- values that move
-  pub copy-shifted : (y : List ℕ) → y ≡ put x (pointer j) (pointers at (recordsBetween p from to)) → y ≡ put d (pointer j) (pointers at (recordsBetween p from to))
-  copy-shifted y ey =
-      let lp : length (pointers at (recordsBetween p from to)) ≡ 34 * (to - from) =
-      length-pointers at (keys-have-32-bytes p (count p) (c .laid) from to (c .order) (c .there)) ∙ ap (λ (n : ℕ). 34 * n) (range-length p (count p) (c .laid) from to (c .order) (c .there)) in
-      ey ∙ rw ex (put-over d (34 * j + 2) v (pointers at (recordsBetween p from to)) (omega (arith, room)) (omega (arith, part-long)))
+pub one-pointer-more : (p d x y : List ℕ) (from to j at i place first : ℕ) → Chunk p from to (length d) j at → from ≤ i → i < to → place ≡ pointer (j + (i - from)) → first ≡ start p from
+    → PointersUpTo p from to j at d i x → y ≡ put x place (pointerMoved p i first at) → PointersUpTo p from to j at d (i + 1) y
+one-pointer-more p d x y from to j at i place first c h l ep ef u ey =
+    put-is-up-to p d from to j at c (i + 1) (omega arith) (omega arith) y
+    (pointers-more p d x y from to j at i place first c h l ep ef (up-to-is-put p d from to j at c i h (omega arith) x u) ey)
+
+pub all-pointers : (p d x : List ℕ) (from to j at i : ℕ) → Chunk p from to (length d) j at → i ≤ to → to ≤ i → PointersUpTo p from to j at d i x
+    → x ≡ put d (pointer j) (pointers at (recordsBetween p from to))
+all-pointers p d x from to j at i c h l u =
+    let e : i ≡ to = omega arith in
+    up-to-is-put p d from to j at c to (c .order) (omega arith) x (subst (λ (n : ℕ). PointersUpTo p from to j at d n x) e u)

@@ -20,7 +20,7 @@ use Rattle.leaf_node.proofs.Reading.{start-in}
 use Rattle.leaf_node.proofs.Lengths.{length-zeros, length-pointers, pointers-append, run-append}
 use Rattle.leaf_node.proofs.Laying.{starts-between, start-inside, value-length, key-length, keys-have-32-bytes, values-of-a-range-are-one-part, values-size-is-a-difference, range-length}
 use Rattle.leaf_node.proofs.Copying.{put-more, put-done}
-use Rattle.leaf_builder.specs.Steps.{CellFits, Shift, Chunk}
+use Rattle.leaf_builder.specs.Steps.{CellFits, Shift, Chunk, pointerMoved}
 use Rattle.leaf_builder.proofs.Putting.{put-none, put-put}
 use Rattle.leaf_builder.proofs.Pushing.{pushes-join}
 
@@ -122,7 +122,7 @@ module _ (p : List ℕ) (from to m j at : ℕ) (c : Chunk p from to m j at) wher
   offset-is : (i : ℕ) → i < to → offsetAt p i ≡ start p i
   offset-is i l = start-in p (count p) i (offsetAt p i) refl (omega (arith, c .there)) refl
 
-  pub chunk-shift : (i first place n : ℕ) → from ≤ i → i < to → first ≡ start p from → n ≡ m → place ≡ pointer (j + (i - from)) + 32 → Shift p i n place first at
+  pub chunk-shift : (i first place n : ℕ) → from ≤ i → i < to → first ≡ start p from → n ≡ m → place ≡ pointer (j + (i - from)) → Shift p i n place first at
   chunk-shift i first place n h l e q r =
       let a = starts from i h (omega arith) in
       let b = starts i to (omega arith) (omega arith) in
@@ -151,14 +151,9 @@ module _ (p : List ℕ) (from to m j at : ℕ) (c : Chunk p from to m j at) wher
 pub pointers-start : (p d : List ℕ) (from j at : ℕ) → d ≡ put d (pointer j) (pointers at (recordsBetween p from from))
 pointers-start p d from j at = rw (records-none p from, pointers-none at) (sym (put-none d (pointer j)))
 
-pub pointers-done : (p d x : List ℕ) (from to i j at : ℕ) → x ≡ put d (pointer j) (pointers at (recordsBetween p from i)) → i ≤ to → to ≤ i
-    → x ≡ put d (pointer j) (pointers at (recordsBetween p from to))
-pointers-done p d x from to i j at e h l = e ∙ ap (λ (k : ℕ). put d (pointer j) (pointers at (recordsBetween p from k))) (omega arith)
-
 pub pointers-more : (p d x y : List ℕ) (from to j at i place first : ℕ) → Chunk p from to (length d) j at → from ≤ i → i < to → place ≡ pointer (j + (i - from))
     → first ≡ start p from → x ≡ put d (pointer j) (pointers at (recordsBetween p from i))
-    → y ≡ put x place (keyAt p i ++ le16 (tagged (at + (offsetAt p i - first)) (flagAt p i)))
-    → y ≡ put d (pointer j) (pointers at (recordsBetween p from (i + 1)))
+    → y ≡ put x place (pointerMoved p i first at) → y ≡ put d (pointer j) (pointers at (recordsBetween p from (i + 1)))
 unfolding recordAt
 pointers-more p d x y from to j at i place first c h l ep ef ex ey =
     let rs : List Record = recordsBetween p from i in

@@ -20,7 +20,7 @@ ghost use Rattle.bit_ops.specs.Steps.{zeros};
 ghost use Rattle.leaf_node.specs.Limits.{PageSize};
 ghost use Rattle.leaf_node.specs.Page.{pointer, keyAt, offsetAt, flagAt, start, recordAt, recordsBetween};
 ghost use Rattle.leaf_node.specs.Build.{le16, tagged, pointers, put, started, pushed, build};
-ghost use Rattle.leaf_builder.specs.Steps.{Begins, CellFits, Shift, Chunk, Copied, Parts};
+ghost use Rattle.leaf_builder.specs.Steps.{Begins, CellFits, Shift, Chunk, Parts, pointerMoved};
 ghost use Rattle.leaf_builder.specs.Rebuild.{rebuildVerdict, rebuildLeaves};
 
 // ---- writing
@@ -79,47 +79,29 @@ pub fn push_cell(d: &mut [u8], j: usize, at: usize, key: &[u8], value: &[u8], fl
     at + value.len()
 }
 
-// The number of pointer i of a page, at byte `place`, shifted as its value is, from `first` to `at`. The top bit, the flag,
-// stays.
-fn shift_number(page: &[u8], i: usize, d: &mut [u8], place: usize, first: usize, at: usize)
+// The pointer of record i of a page at byte `place`, for a value that moves as those from `first` on move to `at`. Key and
+// number are written once; the number's top bit, the flag, stays.
+fn push_pointer(page: &[u8], i: usize, d: &mut [u8], place: usize, first: usize, at: usize)
     requires { ⌜ Shift (now page) i (length (now d)) place first at ⌝ }
-    ensures { λ _. ⌜ now (d .exit) ≡ put (now (d .entry)) place (le16 (tagged (at + (offsetAt (now (page .entry)) i - first)) (flagAt (now (page .entry)) i))) ⌝ }
+    ensures { λ _. ⌜ now (d .exit) ≡ put (now (d .entry)) place (pointerMoved (now (page .entry)) i first at) ⌝ }
 {
-    put_word(d, place, number_at(page, i) + at - first);
+    copy_in(key_at(page, i), d, place);
+    put_word(d, place + 32, number_at(page, i) + at - first);
 }
 
-// Shifts the numbers of a chunk's pointers, which stand in d already, for values that begin at `at` and not at `first`.
-fn shift_numbers(
-    page: &[u8],
-    from: usize,
-    to: usize,
-    d: &mut [u8],
-    j: usize,
-    first: usize,
-    at: usize,
-)
-    requires { ⌜ (Chunk (now page) from to (length (now d)) j at) × (first ≡ start (now page) from) × (Copied (now page) from to (now d) j) ⌝ }
-    ensures { λ _. ⌜ now (d .exit) ≡ put (now (d .entry)) (pointer j) (pointers at (recordsBetween (now (page .entry)) from to)) ⌝ }
-{
-    let mut i = from;
-    let mut place = 34 * j + 34;
-    while i < to {
-        shift_number(page, i, d, place, first, at);
-        place += 34;
-        i += 1;
-    }
-}
-
-// The pointers of records `from` up to `to` of a page, as pointers from j on, for values from byte `at` on: one copy, and
-// other numbers only where the values move.
+// The pointers of records `from` up to `to` of a page, as pointers from j on, for values from byte `at` on, each written a
+// single time: after each record the pointers up to it are final and the later ones as before (`PointersUpTo`).
 fn push_pointers(page: &[u8], from: usize, to: usize, d: &mut [u8], j: usize, at: usize)
     requires { ⌜ Chunk (now page) from to (length (now d)) j at ⌝ }
     ensures { λ _. ⌜ now (d .exit) ≡ put (now (d .entry)) (pointer j) (pointers at (recordsBetween (now (page .entry)) from to)) ⌝ }
 {
     let first = start_at(page, count_of(page), from);
-    copy_in(&page[34 * from + 2..34 * to + 2], d, 34 * j + 2);
-    if first != at {
-        shift_numbers(page, from, to, d, j, first, at);
+    let mut i = from;
+    let mut place = 34 * j + 2;
+    while i < to {
+        push_pointer(page, i, d, place, first, at);
+        place += 34;
+        i += 1;
     }
 }
 
