@@ -185,6 +185,7 @@ pub next-base-work-is : (w : Work) (s : List ℕ) (cut : Bool) (cutoff kept : Li
     → _≡_ {A = Work} (record {
       turn = 1;
       based = 1;
+      mode = w .mode;
       low = 0;
       used = w .used;
       filled = w .filled;

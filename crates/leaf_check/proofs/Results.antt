@@ -58,7 +58,7 @@ module _ (w : Work) where
   cutoff-by a r e f = rw (f, e)
 
   pub marks-by : (a b : Bool) → a ≡ lastBelow w → b ≡ cutoffRight w
-      → (((eqb (w .turn) 1 || eqb (w .turn) 2) || eqb (w .turn) 3) && ((leb (w .based) 1 && (leb (w .cut) 1 && (leb (w .over) 1 && leb (w .taken) 1))) && (a && b)))
+      → (((eqb (w .turn) 1 || eqb (w .turn) 2) || eqb (w .turn) 3) && ((leb (w .mode) 1 && (leb (w .based) 1 && (leb (w .cut) 1 && (leb (w .over) 1 && leb (w .taken) 1)))) && (a && b)))
       ≡ (knownTurn w && (knownFlags w && (lastBelow w && cutoffRight w)))
   marks-by a b e f = rw (e, f)
 

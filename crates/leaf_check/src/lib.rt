@@ -72,13 +72,14 @@ fn cutoff_right(work: Work) -> bool
     implied(work.cut != 0, (work.based != 0) & less(&latest, &cutoff))
 }
 
-// Whether turn and flags are listed ones, and the cutoff is where it must be.
+// Whether turn, mode and flags are listed ones, and the cutoff is where it must be.
 fn marks_right(work: Work) -> bool
     ensures { λ r. ⌜ r ≡ (knownTurn work && (knownFlags work && (lastBelow work && cutoffRight work))) ⌝ }
 {
     let turn = ((work.turn == 1) | (work.turn == 2)) | (work.turn == 3);
     let flags = (work.based <= 1) & ((work.cut <= 1) & ((work.over <= 1) & (work.taken <= 1)));
-    turn & (flags & (last_below(work) & cutoff_right(work)))
+    let marks = (work.mode <= 1) & flags;
+    turn & (marks & (last_below(work) & cutoff_right(work)))
 }
 
 // Whether the floor is where the turn has it.

@@ -71,8 +71,8 @@ cutoff-as-told false c = refl
 
 -- ---- opening, next base, cutoff removal
 
-pub opening-is-told : (x : Opening) → toldOpening x ≡ toldOf (openWork x)
-opening-is-told (with-base page separator cut cutoff) = λ j. record {
+pub opening-is-told : (every : Bool) (x : Opening) → toldOpening x ≡ toldOf (openWork every x)
+opening-is-told every (with-base page separator cut cutoff) = λ j. record {
   turn = Open;
   based = true;
   separator = separator;
@@ -81,7 +81,7 @@ opening-is-told (with-base page separator cut cutoff) = λ j. record {
   floor = separator;
   last = none;
 }
-opening-is-told (with-none cut) = refl
+opening-is-told every (with-none cut) = refl
 
 pub next-base-is-told : (w : Work) (separator : List ℕ) (cut : Bool) (cutoff : List ℕ)
     → toldNextBase separator (keyIf cut cutoff) (toldOf w) ≡ toldOf (nextBaseWork w separator cut cutoff)

@@ -57,13 +57,13 @@ pub record RoomKept (s s′ : State) : Type 0 where
 module _ (size : ℕ) (q : PageSize size) where
   -- ---- every state of a sequence is a reached one
 
-  call-reaches-a-state : (s : State) (x : Call) → Formed x → Reached size s → Reached size (next size s x)
+  pub call-reaches-a-state : (s : State) (x : Call) → Formed x → Reached size s → Reached size (next size s x)
   call-reaches-a-state s (ingest any k c) f h = ingest-reaches-a-state size s h any k c f
   call-reaches-a-state s (digest any area tickets) f h = digest-reaches-a-state size q s h any area tickets
   call-reaches-a-state s (next-base page sep cut key) f h = next-base-reaches-a-state size q s h page sep cut key (f .0) (f .1)
   call-reaches-a-state s remove-cutoff f h = removal-reaches-a-state size s h
 
-  calls-reach-a-state : (xs : List Call) → All Formed xs → (s : State) → Reached size s → Reached size (nexts size s xs)
+  pub calls-reach-a-state : (xs : List Call) → All Formed xs → (s : State) → Reached size s → Reached size (nexts size s xs)
   calls-reach-a-state [] a s h = h
   calls-reach-a-state (x ∷ xs) (cons f fs) s h = calls-reach-a-state xs fs (next size s x) (call-reaches-a-state s x f h)
 
@@ -150,16 +150,16 @@ module _ (size : ℕ) (q : PageSize size) where
   claim-holds-from-a-reached-state xs fs s h =
       claim-holds-of-a-reached-state (nexts size s xs) (calls-reach-a-state xs fs s h) (happenings size s xs) (calls-are-answered-as-document-01-says xs fs s h)
 
-  pub claim-holds-of-every-sequence : (x : Opening) → FormedOpening x → (w : Work) (list : List Entry) (store : List ℕ) → openVerdict size x list store ≡ 0
-      → (xs : List Call) → All Formed xs → Claim size (ByTwins size) (courseOf size (opened size x w list store) xs)
-  claim-holds-of-every-sequence x f w list store e xs fs =
-      claim-holds-from-a-reached-state xs fs (opened size x w list store) (accepted-opening-reaches-a-state size q x f w list store e)
+  pub claim-holds-of-every-sequence : (every : Bool) (x : Opening) → FormedOpening x → (w : Work) (list : List Entry) (store : List ℕ) → openVerdict size x list store ≡ 0
+      → (xs : List Call) → All Formed xs → Claim size (ByTwins size) (courseOf size (opened size every x w list store) xs)
+  claim-holds-of-every-sequence every x f w list store e xs fs =
+      claim-holds-from-a-reached-state xs fs (opened size every x w list store) (accepted-opening-reaches-a-state size q every x f w list store e)
 
   -- what is lent to the first call earns none of Nos. 1 to 8
-  pub accepted-opening-is-sound : (x : Opening) → FormedOpening x → (w : Work) (list : List Entry) (store any : List ℕ) → openVerdict size x list store ≡ 0
-      → lentVerdict size (openOf size x w list store .work) (openOf size x w list store .list) (openOf size x w list store .store) (lent (opened size x w list store) any) ≡ 0
-  accepted-opening-is-sound x f w list store any e =
-      reached-state-earns-no-refusal size (opened size x w list store) (accepted-opening-reaches-a-state size q x f w list store e) any
+  pub accepted-opening-is-sound : (every : Bool) (x : Opening) → FormedOpening x → (w : Work) (list : List Entry) (store any : List ℕ) → openVerdict size x list store ≡ 0
+      → lentVerdict size (openOf size every x w list store .work) (openOf size every x w list store .list) (openOf size every x w list store .store) (lent (opened size every x w list store) any) ≡ 0
+  accepted-opening-is-sound every x f w list store any e =
+      reached-state-earns-no-refusal size (opened size every x w list store) (accepted-opening-reaches-a-state size q every x f w list store e) any
 
   -- ---- room
 

@@ -135,7 +135,7 @@ module _ (size : ℕ) (w : Work) (list : List Entry) (store area tickets : List 
       no-over = kept-key-absent (nonempty (p .left)) (separatorAfter (separatorOf w) (p .leaves) (p .left));
       no-last = h .no-last;
       known-turn = ap turnNumber (sym (turn-of-number (turnAfter (p .left))));
-      flags = record { based = h .flags .based; cut = h .flags .cut; over = bit-small (nonempty (p .left)); taken = h .flags .taken };
+      flags = record { mode = h .flags .mode; based = h .flags .based; cut = h .flags .cut; over = bit-small (nonempty (p .left)); taken = h .flags .taken };
       keyed = record {
         latest = h .keyed .latest;
         cutoff = h .keyed .cutoff;

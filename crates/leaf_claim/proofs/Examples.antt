@@ -35,7 +35,7 @@ recordOf b = record { key = keyOf b; value = []; flag = false }
 
 -- a base under separator 10 and cutoff 40
 abbrev begun : List Record → State
-begun rs = opened size (with-base (build size rs) (keyOf 10) true (keyOf 40)) (openWork (with-none false)) (replicate 8 blank) (zeros size)
+begun rs = opened size false (with-base (build size rs) (keyOf 10) true (keyOf 40)) (openWork false (with-none false)) (replicate 8 blank) (zeros size)
 
 -- two records fill a leaf, a single one waits for a merge
 abbrev two : List Record

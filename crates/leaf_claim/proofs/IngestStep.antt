@@ -15,6 +15,7 @@ use Rattle.leaf_model.specs.Tally.{changed}
 use Rattle.leaf_model.proofs.Keys.{rising-right}
 use Rattle.leaf_model.proofs.Invariant.{ingest-keeps-the-invariant}
 use Rattle.leaf_work.specs.declared.Work.{Work}
+use Rattle.leaf_work.specs.Tests.{isSet}
 use Rattle.leaf_work.specs.Lent.{isOpen, cutoffOf, regarded}
 use Rattle.leaf_work.specs.Pending.{listedOf, restOf}
 use Rattle.leaf_work.specs.Sound.{letsIn}
@@ -66,7 +67,7 @@ module _ (size : ℕ) (s : State) (h : Reached size s) (any k : List ℕ) (c : O
   taken e = rw (e, ingestOn)
 
   report-is-no-refusal : ingestNumber (reportOf size w (s .list) (s .store) p k c) ≡ 0
-  report-is-no-refusal = report-number (reports (w .low) p (stop w p k) (drops w p k)) (start p (stop w p k)) (lengthAt p (stop w p k))
+  report-is-no-refusal = report-number (reports (isSet (w .mode)) (w .low) p (stop w p k) (drops w p k)) (start p (stop w p k)) (lengthAt p (stop w p k))
 
   pub ingest-answers-its-verdict : answered size s (ingest any k c) ≡ verdict
   ingest-answers-its-verdict = ap (λ r. ingestNumber (r .reply)) ingest-of-a-reached-state ∙ go (eqb verdict 0) refl
@@ -135,6 +136,16 @@ module _ (size : ℕ) (s : State) (h : Reached size s) (any k : List ℕ) (c : O
       let a₅ = passed 14 _ _ (a₄ .1) in
       let a₆ = passed 15 _ _ (a₅ .1) in
       record { turn = a₁ .0; fitting = a₂ .0; let-in = a₃ .0; below = a₄ .0; room-list = leb-true _ _ (a₅ .0); room-store = leb-true _ _ (a₆ .0) }
+
+  accepted : answered size s (ingest any k c) ≡ 0 → eqb verdict 0 ≡ true
+  accepted e = eq-eqb _ _ (sym ingest-answers-its-verdict ∙ e)
+
+  pub accepted-ingest-replies : answered size s (ingest any k c) ≡ 0
+      → ingestOf size w (s .list) (s .store) (lent s any) k c .reply ≡ reportOf size w (s .list) (s .store) p k c
+  accepted-ingest-replies e = ap (λ (r : Ingested). r .reply) (ingest-of-a-reached-state ∙ taken (accepted e))
+
+  pub accepted-ingest-is-let-in : answered size s (ingest any k c) ≡ 0 → letsIn w k ≡ true
+  accepted-ingest-is-let-in e = passes (accepted e) .let-in
 
   allows : length k ≡ 32 → Passed → allowed size (seesWork w (s .list) (s .store) p) (Ingest k c) ≡ true
   allows long a = rw (open-turn w (a .turn)) (and-both (a .let-in) (and-both (a .below) (and-both (a .fitting) (eq-eqb (length k) 32 long))))

@@ -275,6 +275,6 @@ module _ (size : ℕ) (w : Work) (list : List Entry) (store p k : List ℕ) (c :
       no-over = h .no-over;
       no-last = λ e. absurd (true≢false e);
       known-turn = h .known-turn;
-      flags = record { based = h .flags .based; cut = h .flags .cut; over = h .flags .over; taken = omega arith };
+      flags = record { mode = h .flags .mode; based = h .flags .based; cut = h .flags .cut; over = h .flags .over; taken = omega arith };
       keyed = record { latest = h .keyed .latest; cutoff = h .keyed .cutoff; overriding = h .keyed .overriding; floor = h .keyed .floor; last = long };
     }

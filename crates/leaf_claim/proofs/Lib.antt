@@ -12,4 +12,6 @@ pub mod OpeningStep
 pub mod Twins
 pub mod Refusals
 pub mod Claimed
+pub mod Modes
+pub mod Reports
 pub mod Examples

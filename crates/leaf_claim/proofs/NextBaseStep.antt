@@ -244,7 +244,7 @@ module _ (size : ℕ) (q : PageSize size) (s : State) (h : Reached size s) (page
       no-over = h .canonical .kept .no-over;
       no-last = h .canonical .kept .no-last;
       known-turn = refl;
-      flags = record { based = omega arith; cut = bit-small cut; over = h .canonical .kept .flags .over; taken = h .canonical .kept .flags .taken };
+      flags = record { mode = h .canonical .kept .flags .mode; based = omega arith; cut = bit-small cut; over = h .canonical .kept .flags .over; taken = h .canonical .kept .flags .taken };
       keyed = record { latest = sep-long; cutoff = kept-key-long cut key key-long; overriding = h .canonical .kept .keyed .overriding; floor = sep-long; last = h .canonical .kept .keyed .last };
     }
 

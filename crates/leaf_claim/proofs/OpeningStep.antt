@@ -36,15 +36,15 @@ use Rattle.leaf_claim.proofs.Reached.{Reached, equal-states-are-reached
 use Rattle.leaf_claim.proofs.NextBaseStep.{all-of-the-base}
 
 -- the state that an accepted opening makes, of n entries and m store bytes
-abbrev opened-state : Opening → ℕ → ℕ → State
-opened-state x n m = record { work = openWork x; list = replicate n blank; store = zeros m; page = openedPage x; told = toldOpening x; given = []; tally = openedTally x }
+abbrev pub opened-state : Bool → Opening → ℕ → ℕ → State
+opened-state every x n m = record { work = openWork every x; list = replicate n blank; store = zeros m; page = openedPage x; told = toldOpening x; given = []; tally = openedTally x }
 
-accepted-opening-is : (size : ℕ) (x : Opening) (w : Work) (list : List Entry) (store : List ℕ) → openVerdict size x list store ≡ 0
-    → opened size x w list store ≡ opened-state x (length list) (length store)
+pub accepted-opening-is : (size : ℕ) (every : Bool) (x : Opening) (w : Work) (list : List Entry) (store : List ℕ) → openVerdict size x list store ≡ 0
+    → opened size every x w list store ≡ opened-state every x (length list) (length store)
 unfolding openOf
-accepted-opening-is size x w list store e =
+accepted-opening-is size every x w list store e =
     let f : eqb (openVerdict size x list store) 0 ≡ true = eq-eqb _ _ e in
-    let r : openOf size x w list store ≡ record { reply = Accepted; work = openWork x; list = replicate (length list) blank; store = zeros (length store) } = rw (f, openOf) in
+    let r : openOf size every x w list store ≡ record { reply = Accepted; work = openWork every x; list = replicate (length list) blank; store = zeros (length store) } = rw (f, openOf) in
     ap (λ (o : Opened). record { work = o .work; list = o .list; store = o .store; page = openedPage x; told = toldOpening x; given = []; tally = openedTally x }) r
 
 laid-opened : (w : Work) (n m : ℕ) (p : List ℕ) → w .used ≡ 0 → w .filled ≡ 0 → w .count ≡ 0 → w .bytes ≡ 0 → w .low ≡ 0 → w .over ≡ 0 → Laid w (replicate n blank) (zeros m) p []
@@ -64,7 +64,7 @@ laid-opened w n m p u f c b l o =
       override-has-insert = λ e. absurd (false≢true (rw o at e));
     }
 
-module _ (size : ℕ) (q : PageSize size) (n m : ℕ) (right-room : roomRight size n m ≡ true) where
+module _ (size : ℕ) (q : PageSize size) (every : Bool) (n m : ℕ) (right-room : roomRight size n m ≡ true) where
   room-again : roomRight size (length (replicate n blank)) (length (zeros m)) ≡ true
   room-again = rw (length-replicate n blank, length-replicate {A = ℕ} m 0) right-room
 
@@ -81,7 +81,7 @@ module _ (size : ℕ) (q : PageSize size) (n m : ℕ) (right-room : roomRight si
 
   module _ (page sep : List ℕ) (cut : Bool) (key : List ℕ) (sep-long : length sep ≡ 32) (key-long : length key ≡ 32) (e : baseVerdict size page sep (keyIf cut key) ≡ 0) where
     abbrev w : Work
-    w = openWork (with-base page sep cut key)
+    w = openWork every (with-base page sep cut key)
 
     l : Laid w (replicate n blank) (zeros m) page []
     l = laid-opened w n m page refl refl refl refl refl refl
@@ -110,7 +110,7 @@ module _ (size : ℕ) (q : PageSize size) (n m : ℕ) (right-room : roomRight si
     g : Good size page
     g = base-page-is-good size q page sep (keyIf cut key) e
 
-    reached-with-base : Reached size (opened-state (with-base page sep cut key) n m)
+    reached-with-base : Reached size (opened-state every (with-base page sep cut key) n m)
     reached-with-base = record {
       canonical = record {
         ops = [];
@@ -128,12 +128,12 @@ module _ (size : ℕ) (q : PageSize size) (n m : ℕ) (right-room : roomRight si
           no-over = λ y. refl;
           no-last = λ y. refl;
           known-turn = refl;
-          flags = record { based = omega arith; cut = bit-small cut; over = omega arith; taken = omega arith };
+          flags = record { mode = bit-small every; based = omega arith; cut = bit-small cut; over = omega arith; taken = omega arith };
           keyed = record { latest = sep-long; cutoff = kept-key-long cut key key-long; overriding = refl; floor = sep-long; last = refl };
         };
         invariant = rw opening-seen (opening-has-the-invariant size (some b) (base-is-good size q page sep (keyIf cut key) e));
       };
-      told = opening-is-told (with-base page sep cut key);
+      told = opening-is-told every (with-base page sep cut key);
     }
       where
         all-true : (xs : List Record) → All (λ r. true ≡ true) xs
@@ -143,7 +143,7 @@ module _ (size : ℕ) (q : PageSize size) (n m : ℕ) (right-room : roomRight si
   -- ---- no base
 
   abbrev w₀ : Work
-  w₀ = openWork (with-none false)
+  w₀ = openWork every (with-none false)
 
   l₀ : Laid w₀ (replicate n blank) (zeros m) [] []
   l₀ = laid-opened w₀ n m [] refl refl refl refl refl refl
@@ -168,7 +168,7 @@ module _ (size : ℕ) (q : PageSize size) (n m : ℕ) (right-room : roomRight si
     last = none;
   }
 
-  reached-with-none : Reached size (opened-state (with-none false) n m)
+  reached-with-none : Reached size (opened-state every (with-none false) n m)
   unfolding total
   reached-with-none = record {
     canonical = record {
@@ -187,23 +187,23 @@ module _ (size : ℕ) (q : PageSize size) (n m : ℕ) (right-room : roomRight si
         no-over = λ y. refl;
         no-last = λ y. refl;
         known-turn = refl;
-        flags = record { based = omega arith; cut = omega arith; over = omega arith; taken = omega arith };
+        flags = record { mode = bit-small every; based = omega arith; cut = omega arith; over = omega arith; taken = omega arith };
         keyed = record { latest = refl; cutoff = refl; overriding = refl; floor = refl; last = refl };
       };
       invariant = rw bare-opening-seen (opening-has-the-invariant size none refl);
     };
-    told = opening-is-told (with-none false);
+    told = opening-is-told every (with-none false);
   }
 
-pub accepted-opening-reaches-a-state : (size : ℕ) → PageSize size → (x : Opening) → FormedOpening x → (w : Work) (list : List Entry) (store : List ℕ)
-    → openVerdict size x list store ≡ 0 → Reached size (opened size x w list store)
+pub accepted-opening-reaches-a-state : (size : ℕ) → PageSize size → (every : Bool) (x : Opening) → FormedOpening x → (w : Work) (list : List Entry) (store : List ℕ)
+    → openVerdict size x list store ≡ 0 → Reached size (opened size every x w list store)
 unfolding openVerdict
-accepted-opening-reaches-a-state size q (with-base page sep cut key) f w list store e =
+accepted-opening-reaches-a-state size q every (with-base page sep cut key) f w list store e =
     let a = first-passed (baseVerdict size page sep (keyIf cut key)) _ e in
     let room = passed 6 (roomRight size (length list) (length store)) 0 (a .1) .0 in
-    equal-states-are-reached size _ _ (accepted-opening-is size (with-base page sep cut key) w list store e)
-    (reached-with-base size q (length list) (length store) room page sep cut key (f .0) (f .1) (a .0))
-accepted-opening-reaches-a-state size q (with-none false) f w list store e =
-    equal-states-are-reached size _ _ (accepted-opening-is size (with-none false) w list store e)
-    (reached-with-none size q (length list) (length store) (passed 6 (roomRight size (length list) (length store)) 0 e .0))
-accepted-opening-reaches-a-state size q (with-none true) f w list store e = absurd (omega arith)
+    equal-states-are-reached size _ _ (accepted-opening-is size every (with-base page sep cut key) w list store e)
+    (reached-with-base size q every (length list) (length store) room page sep cut key (f .0) (f .1) (a .0))
+accepted-opening-reaches-a-state size q every (with-none false) f w list store e =
+    equal-states-are-reached size _ _ (accepted-opening-is size every (with-none false) w list store e)
+    (reached-with-none size q every (length list) (length store) (passed 6 (roomRight size (length list) (length store)) 0 e .0))
+accepted-opening-reaches-a-state size q every (with-none true) f w list store e = absurd (omega arith)

@@ -134,7 +134,7 @@ module _ (size : ℕ) (s : State) (h : Reached size s) where
               no-over = h .canonical .kept .no-over;
               no-last = h .canonical .kept .no-last;
               known-turn = refl;
-              flags = record { based = omega arith; cut = omega arith; over = h .canonical .kept .flags .over; taken = h .canonical .kept .flags .taken };
+              flags = record { mode = h .canonical .kept .flags .mode; based = omega arith; cut = omega arith; over = h .canonical .kept .flags .over; taken = h .canonical .kept .flags .taken };
               keyed = record {
                 latest = h .canonical .kept .keyed .latest;
                 cutoff = refl;

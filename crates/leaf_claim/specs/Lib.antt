@@ -2,3 +2,4 @@
 pub mod Told
 pub mod Sequence
 pub mod Claim
+pub mod Modes

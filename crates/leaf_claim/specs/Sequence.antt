@@ -143,10 +143,10 @@ abbrev pub openedPage : Opening → List ℕ
 openedPage (with-base page separator cut cutoff) = page
 openedPage (with-none cut) = []
 
--- an opening that is lent any work record, list and store
-abbrev pub opened : ℕ → Opening → Work → List Entry → List ℕ → State
-opened size x w list store =
-    let r = openOf size x w list store in
+-- an opening in one of M-100's modes that is lent any work record, list and store
+abbrev pub opened : ℕ → Bool → Opening → Work → List Entry → List ℕ → State
+opened size every x w list store =
+    let r = openOf size every x w list store in
     record { work = r .work; list = r .list; store = r .store; page = openedPage x; told = toldOpening x; given = []; tally = openedTally x }
 
 -- ---- a whole sequence: the state that it leaves, and what happened

@@ -23,6 +23,7 @@ module _ (w : Work) (g : Gauge) (s : List ℕ) where
   workLike turn over overriding floor = record {
     turn = turn;
     based = w .based;
+    mode = w .mode;
     low = 0;
     used = g .count;
     filled = g .bytes;

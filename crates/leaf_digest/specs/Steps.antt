@@ -36,6 +36,7 @@ unfoldable pub digestWorkBy : Work → Gauge → List ℕ → Work
 digestWorkBy w left separator = record {
   turn = cond (isZero (left .count)) (turnNumber Done) (turnNumber Waiting);
   based = w .based;
+  mode = w .mode;
   low = 0;
   used = left .count;
   filled = left .bytes;

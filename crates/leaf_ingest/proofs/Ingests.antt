@@ -18,6 +18,7 @@ use Rattle.leaf_work.specs.declared.Work.{Work}
 use Rattle.leaf_work.specs.declared.Entry.{Entry}
 use Rattle.leaf_work.specs.Lent.{cutoffOf, isOpen, regarded}
 use Rattle.leaf_work.specs.Flat.{entriesOf, listOf, keysAfter}
+use Rattle.leaf_work.specs.Tests.{isSet}
 use Rattle.leaf_work.specs.Sound.{letsIn}
 use Rattle.leaf_work.specs.TakingUp.{valueOf, reports, entriesWith, stop, drops, restAfter, newEntries, countAfter, bytesAfter}
 use Rattle.leaf_work.specs.Verdict.{lentVerdict, ingestVerdict}
@@ -84,7 +85,7 @@ module _ (w : Work) (page k : List ℕ) (kept : Kept) (g : Taken w page k kept) 
   entries-are c = rw (g .stop-is, g .taken-is)
 
   module _ (size : ℕ) (list : List Entry) (store : List ℕ) (c : Option Change) where
-    pub report-is : outcome.reportBy (w .low) page (kept .stop) (kept .dropped) ≡ outcome.reportOf size w list store page k c
+    pub report-is : outcome.reportBy (isSet (w .mode)) (w .low) page (kept .stop) (kept .dropped) ≡ outcome.reportOf size w list store page k c
     report-is = rw (g .stop-is, g .dropped-is)
 
     pub work-is : ingestWorkBy w k kept (w .used + length (entriesWith w k (kept .stop) (kept .taken) c)) (length (inserted k c)) (length (valueOf c)) ≡ outcome.ingestWork size w list store page k c
@@ -174,7 +175,7 @@ module _ (size : ℕ) (w : Work) (rows keys : List (List ℕ)) (store page : Lis
           → Leaves (outcome.ingestOn size w (listOf rows keys) store page k c 0) (w .used) (newEntries w page k c) rows keys r rows′ keys′ store′
       unfolding put
       an-accepted-ingest-leaves-its-outcome r rows′ keys′ store′ s =
-          let n : outcome.ingestNumber (outcome.reportOf size w (listOf rows keys) store page k c) ≡ 0 = report-number (reports (w .low) page (stop w page k) (drops w page k)) _ _ in
+          let n : outcome.ingestNumber (outcome.reportOf size w (listOf rows keys) store page k c) ≡ 0 = report-number (reports (isSet (w .mode)) (w .low) page (stop w page k) (drops w page k)) _ _ in
           let es = entries-are w page k kept g c in
           let rs : rows′ ≡ put rows (w .used) (rowsOf (newEntries w page k c)) = s .rows-is ∙ rw es in
           let ks : keys′ ≡ put keys (w .used) (keysOf (newEntries w page k c)) = s .keys-is ∙ rw es in

@@ -18,7 +18,7 @@ use Rattle.leaf_model.specs.Work.{Change, inserted}
 use Rattle.leaf_model.proofs.Lists.{all-append, all-map}
 use Rattle.leaf_work.specs.declared.Work.{Work}
 use Rattle.leaf_work.specs.declared.Entry.{Entry}
-use Rattle.leaf_work.specs.Tests.{bit}
+use Rattle.leaf_work.specs.Tests.{isSet, bit}
 use Rattle.leaf_work.specs.Lent.{blank, chunkOf, insertAt, regarded}
 use Rattle.leaf_work.specs.Flat.{entriesOf, listOf, rowOf, rowsAfter}
 use Rattle.leaf_work.specs.TakingUp.{valueOf, reports, chunkEntries, insertEntries, stop, drops, lowAfter, newEntries}
@@ -221,6 +221,6 @@ module _ (size : ℕ) (w : Work) (rows keys : List (List ℕ)) (store page k : L
     where
       go : (b : Bool) → eqb verdict 0 ≡ b → rowsWith (outcome.ingestNumber (o .reply)) (w .used) added rows ≡ rowsAfter (outcome.ingestNumber (o .reply)) (o .list) rows
       go true e =
-          let n : outcome.ingestNumber (outcome.reportOf size w (listOf rows keys) store (regarded w page) k c) ≡ 0 = report-number (reports (w .low) (regarded w page) (stop w (regarded w page) k) (drops w (regarded w page) k)) _ _ in
+          let n : outcome.ingestNumber (outcome.reportOf size w (listOf rows keys) store (regarded w page) k c) ≡ 0 = report-number (reports (isSet (w .mode)) (w .low) (regarded w page) (stop w (regarded w page) k) (drops w (regarded w page) k)) _ _ in
           rw (taken e, n) (rows-are (lent-accepted (eqb-true _ _ e)))
       go false e = rw (turned-down e, rowsWith, rowsAfter, e)

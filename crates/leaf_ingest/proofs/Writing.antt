@@ -1,17 +1,19 @@
 -- What an accepted ingest writes: entries behind the used ones, and its report. Assumes nothing.
 use mathlib.Core.Path.{_≡_, refl, sym, _∙_}
-use mathlib.Core.Bool.{Bool, true, false, not}
+use mathlib.Core.Bool.{Bool, true, false, not, _&&_, _||_}
 use mathlib.Core.List.{List, [], _∷_, _++_}
 use Prim.Native.Nat.{ℕ, _+_, _-_, _≤_, _<_}
 use native.Mathlib.Omega.{arith}
+use native.Mathlib.Decide.{decLt}
+use lib.Dec.{leb, ltb}
 use lib.ListN.{length, set, replicate, length-append, length-map}
-use borrow.Author.Tests.{lt-ltb, le-ltb, not-true, not-false}
+use borrow.Author.Tests.{lt-ltb, le-ltb, lt-leb, le-leb, not-true, not-false}
 use Rattle.leaf_node.specs.Page.{start, lengthAt, flagAt}
 use Rattle.leaf_node.specs.Steps.{Readable}
 use Rattle.leaf_node.specs.Build.{put}
 use Rattle.leaf_work.specs.declared.Work.{Work}
 use Rattle.leaf_work.specs.declared.Entry.{Entry}
-use Rattle.leaf_work.specs.Tests.{bit}
+use Rattle.leaf_work.specs.Tests.{isSet, bit}
 use Rattle.leaf_work.specs.Lent.{insertAt}
 use Rattle.leaf_work.specs.Flat.{rowOf}
 use Rattle.leaf_work.specs.TakingUp.{valueOf, chunkEntries, insertEntries, entriesWith}
@@ -76,26 +78,44 @@ module _ (rows keys : List (List ℕ)) (at : ℕ) (chunk insert : List Entry) (h
 
 -- ---- the report
 
-module _ (low : ℕ) (page : List ℕ) (z : Kept) where
-  pub what-is-not-dropped-is-not-reported : not (z .dropped) ≡ true → outcome.Quiet ≡ reportBy low page (z .stop) (z .dropped)
+module _ (every : Bool) (low : ℕ) (page : List ℕ) (z : Kept) where
+  pub what-is-not-dropped-is-not-reported : not (z .dropped) ≡ true → outcome.Quiet ≡ reportBy every low page (z .stop) (z .dropped)
   what-is-not-dropped-is-not-reported h = rw (not-true (z .dropped) h)
+
+  -- the code's test is the definition's, turned round
+  tested : (not every && leb (z .stop) low) ≡ not (every || ltb low (z .stop))
+  tested = go every
+    where
+      go : (t : Bool) → (not t && leb (z .stop) low) ≡ not (t || ltb low (z .stop))
+      go true = refl
+      go false = elim (decLt low (z .stop)) [
+        | yes l ↦ rw (lt-ltb low (z .stop) l, lt-leb (z .stop) low l)
+        | no l ↦ let h : z .stop ≤ low = omega arith in rw (le-ltb low (z .stop) h, le-leb (z .stop) low h)
+      ]
 
   module _ (d : not (z .dropped) ≡ false) where
     pub a-dropped-record-is-readable : (z .dropped ≡ true → Readable page (z .stop)) → Readable page (z .stop)
     a-dropped-record-is-readable r = r (not-false (z .dropped) d)
 
-    pub the-first-record-is-not-reported : z .stop ≤ low → outcome.Quiet ≡ reportBy low page (z .stop) (z .dropped)
+    pub the-first-record-is-not-reported : (not every && leb (z .stop) low) ≡ true → outcome.Quiet ≡ reportBy every low page (z .stop) (z .dropped)
     the-first-record-is-not-reported h = go (flagAt page (z .stop)) refl
       where
-        go : (b : Bool) → flagAt page (z .stop) ≡ b → outcome.Quiet ≡ reportBy low page (z .stop) (z .dropped)
-        go true e = rw (not-false (z .dropped) d, e, le-ltb low (z .stop) h, reportBy)
+        neither : (every || ltb low (z .stop)) ≡ false
+        neither = not-true (every || ltb low (z .stop)) (sym tested ∙ h)
+
+        go : (b : Bool) → flagAt page (z .stop) ≡ b → outcome.Quiet ≡ reportBy every low page (z .stop) (z .dropped)
+        go true e = rw (not-false (z .dropped) d, e, neither, reportBy)
         go false e = rw (not-false (z .dropped) d, e, reportBy)
 
-    module _ (l : low < z .stop) (f : Bool) (e : f ≡ flagAt page (z .stop)) where
-      pub a-flagged-record-is-reported : (a n : ℕ) → f ≡ true → a ≡ start page (z .stop) → n ≡ lengthAt page (z .stop) → outcome.Reported a n ≡ reportBy low page (z .stop) (z .dropped)
-      a-flagged-record-is-reported a n t p q = rw (not-false (z .dropped) d, ← e, t, lt-ltb low (z .stop) l, p, q, reportBy)
+    module _ (l : (not every && leb (z .stop) low) ≡ false) (f : Bool) (e : f ≡ flagAt page (z .stop)) where
+      either : (every || ltb low (z .stop)) ≡ true
+      either = not-false (every || ltb low (z .stop)) (sym tested ∙ l)
 
-      pub a-plain-record-is-not-reported : f ≡ false → outcome.Quiet ≡ reportBy low page (z .stop) (z .dropped)
+      pub a-flagged-record-is-reported : (a n : ℕ) → f ≡ true → a ≡ start page (z .stop) → n ≡ lengthAt page (z .stop)
+          → outcome.Reported a n ≡ reportBy every low page (z .stop) (z .dropped)
+      a-flagged-record-is-reported a n t p q = rw (not-false (z .dropped) d, ← e, t, either, p, q, reportBy)
+
+      pub a-plain-record-is-not-reported : f ≡ false → outcome.Quiet ≡ reportBy every low page (z .stop) (z .dropped)
       a-plain-record-is-not-reported t = rw (not-false (z .dropped) d, ← e, t, reportBy)
 
 -- ---- all of it
@@ -111,7 +131,7 @@ module _ (w : Work) (page : List ℕ) (z : Kept) (change : taken.Change) (value 
   pub an-accepted-ingest-is-stepped : (k : List ℕ) (used : ℕ) (rows′ keys′ : List (List ℕ)) (store′ : List ℕ) (reply : Report) (a : ℕ) (next : Work)
       → (used ≡ w .used + length (entriesWith w k (z .stop) (z .taken) (changeOf change value))) × (rows′ ≡ put rows (w .used) (rowsOf (entriesWith w k (z .stop) (z .taken) (changeOf change value))))
       × (keys′ ≡ put keys (w .used) (keysOf (entriesWith w k (z .stop) (z .taken) (changeOf change value))))
-      → store′ ≡ put store (w .filled) x → replyOf reply ≡ reportBy (w .low) page (z .stop) (z .dropped) → a ≡ addedBy change → next ≡ ingestWorkBy w k z used a (length x)
+      → store′ ≡ put store (w .filled) x → replyOf reply ≡ reportBy (isSet (w .mode)) (w .low) page (z .stop) (z .dropped) → a ≡ addedBy change → next ≡ ingestWorkBy w k z used a (length x)
       → Stepped w page k z (changeOf change value) rows keys store (record { reply = reply; work = next }) rows′ keys′ store′
   an-accepted-ingest-is-stepped k used rows′ keys′ store′ reply a next u s p f n =
       record {

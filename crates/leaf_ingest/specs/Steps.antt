@@ -15,7 +15,7 @@ use Rattle.leaf_node.specs.Build.{put}
 use Rattle.leaf_model.specs.Work.{Change, belowCutoff, inserted}
 use Rattle.leaf_work.specs.declared.Work.{Work}
 use Rattle.leaf_work.specs.declared.Entry.{Entry}
-use Rattle.leaf_work.specs.Tests.{bit}
+use Rattle.leaf_work.specs.Tests.{isSet, bit}
 use Rattle.leaf_work.specs.Lent.{mostEntries, mostStoreBytes, isOpen, cutoffOf}
 use Rattle.leaf_work.specs.Flat.{listOf, rowOf, keysAfter}
 use Rattle.leaf_work.specs.Sound.{letsIn}
@@ -129,7 +129,7 @@ pub record Room (w : Work) (page : List ℕ) (z : Kept) (added len : ℕ) (rows 
 
 -- an accepted ingest
 pub record Stepped (w : Work) (page k : List ℕ) (z : Kept) (c : Option Change) (rows keys : List (List ℕ)) (store : List ℕ) (r : Ingested) (rows′ keys′ : List (List ℕ)) (store′ : List ℕ) : Type 0 where
-  pub reply-is : replyOf (r .reply) ≡ outcome.reportBy (w .low) page (z .stop) (z .dropped)
+  pub reply-is : replyOf (r .reply) ≡ outcome.reportBy (isSet (w .mode)) (w .low) page (z .stop) (z .dropped)
   pub work-is : r .work ≡ ingestWorkBy w k z (w .used + length (entriesWith w k (z .stop) (z .taken) c)) (length (inserted k c)) (length (valueOf c))
   pub rows-is : rows′ ≡ put rows (w .used) (rowsOf (entriesWith w k (z .stop) (z .taken) c))
   pub keys-is : keys′ ≡ put keys (w .used) (keysOf (entriesWith w k (z .stop) (z .taken) c))

@@ -282,15 +282,15 @@ fn put_entries(
     put_insert(rows, keys, at, work.filled, key, change, value)
 }
 
-// A flagged record that is dropped is reported where one was taken up before it.
-pub fn report_of(low: usize, page: &[u8], kept: Kept) -> Report
+// A flagged record that is dropped is reported: every one, or where one was taken up before it.
+pub fn report_of(every: bool, low: usize, page: &[u8], kept: Kept) -> Report
     requires { ⌜ (kept .dropped ≡ true → Readable (now page) (kept .stop)) ⌝ }
-    ensures { λ r. ⌜ replyOf r ≡ outcome.reportBy low (now (page .entry)) (kept .stop) (kept .dropped) ⌝ }
+    ensures { λ r. ⌜ replyOf r ≡ outcome.reportBy every low (now (page .entry)) (kept .stop) (kept .dropped) ⌝ }
 {
     if !kept.dropped {
         return Report::Quiet;
     }
-    if kept.stop <= low {
+    if !every & (kept.stop <= low) {
         return Report::Quiet;
     }
     let cell = cell_at(page, kept.stop);
@@ -340,7 +340,7 @@ fn take_in(
     let used = put_entries(work, rows, keys, kept, key, change, value);
     let new = value_of(change, value);
     copy_in(new, store, work.filled);
-    let reply = report_of(work.low, page, kept);
+    let reply = report_of(work.mode != 0, work.low, page, kept);
     let next = ingest_work(work, key, kept, used, added(change), new.len());
     Ingested {
         reply: reply,

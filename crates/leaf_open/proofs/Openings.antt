@@ -53,11 +53,12 @@ module _ (size : ℕ) (based : Bool) (page sep : List ℕ) (cut : Bool) (cutoff 
 
 -- ---- the work record
 
-pub fresh-work-is : (based : Bool) (sep : List ℕ) (cut : Bool) (cutoff : List ℕ) (lowest kept : List ℕ) (b c : ℕ) → lowest ≡ cond based sep zeroKey → b ≡ bit based
+pub fresh-work-is : (every based : Bool) (sep : List ℕ) (cut : Bool) (cutoff : List ℕ) (lowest kept : List ℕ) (m b c : ℕ) → m ≡ bit every → lowest ≡ cond based sep zeroKey → b ≡ bit based
     → c ≡ bit cut → kept ≡ cond cut cutoff zeroKey
     → _≡_ {A = Work} (record {
       turn = 1;
       based = b;
+      mode = m;
       low = 0;
       used = 0;
       filled = 0;
@@ -71,16 +72,16 @@ pub fresh-work-is : (based : Bool) (sep : List ℕ) (cut : Bool) (cutoff : List 
       floor = lowest;
       taken = 0;
       last = replicate 32 0;
-    }) (freshWork based (cond based sep zeroKey) cut cutoff)
-fresh-work-is based sep cut cutoff lowest kept b c e₁ e₂ e₃ e₄ = rw (e₁, e₂, e₃, e₄)
+    }) (freshWork every based (cond based sep zeroKey) cut cutoff)
+fresh-work-is every based sep cut cutoff lowest kept m b c e₀ e₁ e₂ e₃ e₄ = rw (e₀, e₁, e₂, e₃, e₄)
 
-pub fresh-work-is-open : (size : ℕ) (based : Bool) (page sep : List ℕ) (cut : Bool) (cutoff : List ℕ) (list : List Entry) (store : List ℕ)
+pub fresh-work-is-open : (size : ℕ) (every based : Bool) (page sep : List ℕ) (cut : Bool) (cutoff : List ℕ) (list : List Entry) (store : List ℕ)
     → openVerdict size (openingOf based page sep cut cutoff) list store ≡ 0
-    → freshWork based (cond based sep zeroKey) cut cutoff ≡ openWork (openingOf based page sep cut cutoff)
+    → freshWork every based (cond based sep zeroKey) cut cutoff ≡ openWork every (openingOf based page sep cut cutoff)
 unfolding openVerdict openingOf
-fresh-work-is-open size true page sep cut cutoff list store e = refl
-fresh-work-is-open size false page sep true cutoff list store e = absurd (omega arith)
-fresh-work-is-open size false page sep false cutoff list store e = refl
+fresh-work-is-open size every true page sep cut cutoff list store e = refl
+fresh-work-is-open size every false page sep true cutoff list store e = absurd (omega arith)
+fresh-work-is-open size every false page sep false cutoff list store e = refl
 
 -- ---- the outcome
 
@@ -92,28 +93,28 @@ blank-keys : (n : ℕ) → map (λ (e : Entry). e .key) (replicate n blank) ≡ 
 blank-keys zero = refl
 blank-keys (suc n) = ap (λ (r : List (List ℕ)). zeroKey ∷ r) (blank-keys n)
 
-module _ (size : ℕ) (x : Opening) (w : Work) (list : List Entry) (store : List ℕ) (v : ℕ) (e : v ≡ openVerdict size x list store) where
-  pub refused-outcome : (v ≡ 0 → ⊥) → openOf size x w list store ≡ record { reply = Refused v; work = w; list = list; store = store }
+module _ (size : ℕ) (every : Bool) (x : Opening) (w : Work) (list : List Entry) (store : List ℕ) (v : ℕ) (e : v ≡ openVerdict size x list store) where
+  pub refused-outcome : (v ≡ 0 → ⊥) → openOf size every x w list store ≡ record { reply = Refused v; work = w; list = list; store = store }
   unfolding openOf
   refused-outcome h = let f : eqb (openVerdict size x list store) 0 ≡ false = rw (← e) (ne-eqb v 0 h) in rw (f, openOf, e)
 
   pub accepted-outcome : v ≡ 0
-      → openOf size x w list store ≡ record { reply = Accepted; work = openWork x; list = replicate (length list) blank; store = zeros (length store) }
+      → openOf size every x w list store ≡ record { reply = Accepted; work = openWork every x; list = replicate (length list) blank; store = zeros (length store) }
   unfolding openOf
   accepted-outcome z = let f : eqb (openVerdict size x list store) 0 ≡ true = rw (← e) (eq-eqb v 0 z) in rw (f, openOf)
 
-pub a-refused-opening-changes-nothing : (size : ℕ) (x : Opening) (w : Work) (rows keys : List (List ℕ)) (store : List ℕ) (v : ℕ)
+pub a-refused-opening-changes-nothing : (size : ℕ) (every : Bool) (x : Opening) (w : Work) (rows keys : List (List ℕ)) (store : List ℕ) (v : ℕ)
     → v ≡ openVerdict size x (listOf rows keys) store → (v ≡ 0 → ⊥)
-    → (let o : Opened = openOf size x w (listOf rows keys) store in
+    → (let o : Opened = openOf size every x w (listOf rows keys) store in
     (v ≡ replyNumber (o .reply)) × (w ≡ o .work) × (rows ≡ rowsAfter (replyNumber (o .reply)) (o .list) rows) × (keys ≡ keysAfter (replyNumber (o .reply)) (o .list) keys)
     × (store ≡ o .store))
-a-refused-opening-changes-nothing size x w rows keys store v e h =
-    rw (refused-outcome size x w (listOf rows keys) store v e h, rowsAfter, keysAfter, ne-eqb v 0 h) (refl, refl, refl, refl, refl)
+a-refused-opening-changes-nothing size every x w rows keys store v e h =
+    rw (refused-outcome size every x w (listOf rows keys) store v e h, rowsAfter, keysAfter, ne-eqb v 0 h) (refl, refl, refl, refl, refl)
 
-module _ (size : ℕ) (based : Bool) (page sep : List ℕ) (cut : Bool) (cutoff : List ℕ) (w : Work) (rows keys : List (List ℕ)) (store : List ℕ) (v : ℕ)
+module _ (size : ℕ) (every based : Bool) (page sep : List ℕ) (cut : Bool) (cutoff : List ℕ) (w : Work) (rows keys : List (List ℕ)) (store : List ℕ) (v : ℕ)
     (e : v ≡ openVerdict size (openingOf based page sep cut cutoff) (listOf rows keys) store) where
   abbrev outcome : Opened
-  outcome = openOf size (openingOf based page sep cut cutoff) w (listOf rows keys) store
+  outcome = openOf size every (openingOf based page sep cut cutoff) w (listOf rows keys) store
 
   module _ (z : v ≡ 0) where
     as-many : (length (listOf rows keys) ≡ length rows) × (length (listOf rows keys) ≡ length keys)
@@ -124,14 +125,14 @@ module _ (size : ℕ) (based : Bool) (page sep : List ℕ) (cut : Bool) (cutoff 
         let d : length rows ≡ length keys = rows-and-keys-are-as-many rows keys size store (c .0) in
         (the-list-is-as-long-as-its-rows rows keys d, the-list-is-as-long-as-its-rows rows keys d ∙ d)
 
-    pub an-accepted-opening-clears-all : (r : Work) (rows′ keys′ : List (List ℕ)) (store′ : List ℕ) → r ≡ freshWork based (cond based sep zeroKey) cut cutoff
+    pub an-accepted-opening-clears-all : (r : Work) (rows′ keys′ : List (List ℕ)) (store′ : List ℕ) → r ≡ freshWork every based (cond based sep zeroKey) cut cutoff
         → rows′ ≡ replicate (length rows) (rowOf blank) → keys′ ≡ replicate (length keys) zeroKey → store′ ≡ zeros (length store)
         → (0 ≡ replyNumber (outcome .reply)) × (r ≡ outcome .work) × (rows′ ≡ rowsAfter (replyNumber (outcome .reply)) (outcome .list) rows)
         × (keys′ ≡ keysAfter (replyNumber (outcome .reply)) (outcome .list) keys) × (store′ ≡ outcome .store)
     an-accepted-opening-clears-all r rows′ keys′ store′ e₁ e₂ e₃ e₄ =
-        rw (accepted-outcome size (openingOf based page sep cut cutoff) w (listOf rows keys) store v e z) (
+        rw (accepted-outcome size every (openingOf based page sep cut cutoff) w (listOf rows keys) store v e z) (
           refl,
-          e₁ ∙ fresh-work-is-open size based page sep cut cutoff (listOf rows keys) store (sym e ∙ z),
+          e₁ ∙ fresh-work-is-open size every based page sep cut cutoff (listOf rows keys) store (sym e ∙ z),
           rw (as-many .0) (e₂ ∙ sym (blank-rows (length rows))),
           rw (as-many .1) (e₃ ∙ sym (blank-keys (length keys))),
           e₄,

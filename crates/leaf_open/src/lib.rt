@@ -94,14 +94,22 @@ fn open_verdict(
     0
 }
 
-// An open work with nothing listed. Without a base its separator is zeros.
-pub fn fresh_work(based: bool, separator: &[u8; 32], cut: bool, cutoff: &[u8; 32]) -> Work
-    ensures { λ r. ⌜ r ≡ freshWork based (cond based (now (separator .entry)) zeroKey) cut (now (cutoff .entry)) ⌝ }
+// An open work with nothing listed, in the mode that reports every dropped flagged record or in the Rust's. Without a base its separator
+// is zeros.
+pub fn fresh_work(
+    every: bool,
+    based: bool,
+    separator: &[u8; 32],
+    cut: bool,
+    cutoff: &[u8; 32],
+) -> Work
+    ensures { λ r. ⌜ r ≡ freshWork every based (cond based (now (separator .entry)) zeroKey) cut (now (cutoff .entry)) ⌝ }
 {
     let lowest = key_or_zeros(based, separator);
     Work {
         turn: 1,
         based: bit_of(based),
+        mode: bit_of(every),
         low: 0,
         used: 0,
         filled: 0,
@@ -120,6 +128,7 @@ pub fn fresh_work(based: bool, separator: &[u8; 32], cut: bool, cutoff: &[u8; 32
 
 // Opening: list and store are filled with zeros.
 pub fn open(
+    every: bool,
     based: bool,
     page: &[u8],
     separator: &[u8; 32],
@@ -130,7 +139,7 @@ pub fn open(
     keys: &mut [[u8; 32]],
     store: &mut [u8],
 ) -> Updated
-    ensures { λ r. ⌜ (let o : Opened = openOf 4096 (openingOf based (now (page .entry)) (now (separator .entry)) cut (now (cutoff .entry))) work (listOf (now (rows .entry)) (now (keys .entry))) (now (store .entry)) in (r .refusal ≡ replyNumber (o .reply)) × (r .work ≡ o .work) × (now (rows .exit) ≡ rowsAfter (replyNumber (o .reply)) (o .list) (now (rows .entry))) × (now (keys .exit) ≡ keysAfter (replyNumber (o .reply)) (o .list) (now (keys .entry))) × (now (store .exit) ≡ o .store)) ⌝ }
+    ensures { λ r. ⌜ (let o : Opened = openOf 4096 every (openingOf based (now (page .entry)) (now (separator .entry)) cut (now (cutoff .entry))) work (listOf (now (rows .entry)) (now (keys .entry))) (now (store .entry)) in (r .refusal ≡ replyNumber (o .reply)) × (r .work ≡ o .work) × (now (rows .exit) ≡ rowsAfter (replyNumber (o .reply)) (o .list) (now (rows .entry))) × (now (keys .exit) ≡ keysAfter (replyNumber (o .reply)) (o .list) (now (keys .entry))) × (now (store .exit) ≡ o .store)) ⌝ }
 {
     let refusal = open_verdict(
         based,
@@ -155,6 +164,6 @@ pub fn open(
     settle_bytes(store, 0, all);
     Updated {
         refusal: 0,
-        work: fresh_work(based, separator, cut, cutoff),
+        work: fresh_work(every, based, separator, cut, cutoff),
     }
 }

@@ -46,22 +46,22 @@ cleared-from-the-end list =
 
 -- ---- the outcome
 
-module _ (based : Bool) (page sep : List ℕ) (cut : Bool) (cutoff : List ℕ) (w : Work) (entries : ℕ) (store : List ℕ) (v : ℕ) (list : List Entry) (l : length list ≡ entries)
+module _ (every based : Bool) (page sep : List ℕ) (cut : Bool) (cutoff : List ℕ) (w : Work) (entries : ℕ) (store : List ℕ) (v : ℕ) (list : List Entry) (l : length list ≡ entries)
     (e : v ≡ openVerdict 4096 (openingOf based page sep cut cutoff) list store) where
   pub a-refused-opening-changes-nothing : (v ≡ 0 → ⊥)
-      → (let o : Opened = openOf 4096 (openingOf based page sep cut cutoff) w list store in
+      → (let o : Opened = openOf 4096 every (openingOf based page sep cut cutoff) w list store in
       (v ≡ replyNumber (o .reply)) × (w ≡ o .work) × (cleared blank list entries ≡ o .list) × (store ≡ o .store))
   a-refused-opening-changes-nothing h =
-      rw (refused-outcome 4096 (openingOf based page sep cut cutoff) w list store v e h, ← l) (refl, refl, cleared-from-the-end list, refl)
+      rw (refused-outcome 4096 every (openingOf based page sep cut cutoff) w list store v e h, ← l) (refl, refl, cleared-from-the-end list, refl)
 
-  pub an-accepted-opening-clears-all : v ≡ 0 → (r : Work) (store′ : List ℕ) → r ≡ freshWork based (cond based sep zeroKey) cut cutoff → store′ ≡ zeros (length store)
-      → (let o : Opened = openOf 4096 (openingOf based page sep cut cutoff) w list store in
+  pub an-accepted-opening-clears-all : v ≡ 0 → (r : Work) (store′ : List ℕ) → r ≡ freshWork every based (cond based sep zeroKey) cut cutoff → store′ ≡ zeros (length store)
+      → (let o : Opened = openOf 4096 every (openingOf based page sep cut cutoff) w list store in
       (0 ≡ replyNumber (o .reply)) × (r ≡ o .work) × (cleared blank list 0 ≡ o .list) × (store′ ≡ o .store))
   unfolding cleared
   an-accepted-opening-clears-all z r store′ f g =
-      rw (accepted-outcome 4096 (openingOf based page sep cut cutoff) w list store v e z) (
+      rw (accepted-outcome 4096 every (openingOf based page sep cut cutoff) w list store v e z) (
         refl,
-        f ∙ fresh-work-is-open 4096 based page sep cut cutoff list store (sym e ∙ z),
+        f ∙ fresh-work-is-open 4096 every based page sep cut cutoff list store (sym e ∙ z),
         ap (λ (n : ℕ). replicate n blank) (none-less (length list)),
         g,
       )

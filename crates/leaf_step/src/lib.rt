@@ -96,13 +96,14 @@ pub fn open_step(
     work: Work,
     entries: usize,
     store: &mut [u8],
+    mode: u8,
     based: u8,
     page: &[u8],
     separator: &[u8; 32],
     cut: u8,
     cutoff: &[u8; 32],
 ) -> OpenStep
-    ensures { λ r. ⌜ ((list : List declared.Entry) → length list ≡ entries → (let o : Opened = openOf 4096 (openingOf (isSet based) (now (page .entry)) (now (separator .entry)) (isSet cut) (now (cutoff .entry))) work list (now (store .entry)) in (r .refusal ≡ replyNumber (o .reply)) × (r .work ≡ o .work) × (cleared blank list (r .from) ≡ o .list) × (now (store .exit) ≡ o .store))) ⌝ }
+    ensures { λ r. ⌜ ((list : List declared.Entry) → length list ≡ entries → (let o : Opened = openOf 4096 (isSet mode) (openingOf (isSet based) (now (page .entry)) (now (separator .entry)) (isSet cut) (now (cutoff .entry))) work list (now (store .entry)) in (r .refusal ≡ replyNumber (o .reply)) × (r .work ≡ o .work) × (cleared blank list (r .from) ≡ o .list) × (now (store .exit) ≡ o .store))) ⌝ }
 {
     let refusal = open_number(
         based != 0,
@@ -125,7 +126,7 @@ pub fn open_step(
     OpenStep {
         refusal: 0,
         from: 0,
-        work: fresh_work(based != 0, separator, cut != 0, cutoff),
+        work: fresh_work(mode != 0, based != 0, separator, cut != 0, cutoff),
     }
 }
 

@@ -17,7 +17,7 @@ use Rattle.leaf_node.specs.Build.{put}
 use Rattle.leaf_model.specs.Work as model
 use Rattle.leaf_work.specs.declared.Work.{Work}
 use Rattle.leaf_work.specs.declared.Entry.{Entry}
-use Rattle.leaf_work.specs.Tests.{bit}
+use Rattle.leaf_work.specs.Tests.{isSet, bit}
 use Rattle.leaf_work.specs.Lent.{blank, insertAt, chunkOf, regarded}
 use Rattle.leaf_work.specs.TakingUp.{valueOf, chunkEntries, insertEntries, entriesWith, newEntries}
 use Rattle.leaf_work.specs.Verdict.{lentVerdict, ingestVerdict}
@@ -163,7 +163,7 @@ module _ (size : ℕ) (w : Work) (list : List Entry) (store page : List ℕ) (k 
             go true h = let l : w .low < kept .stop = ltb-true (w .low) (kept .stop) h in rw (chunkCount, h) (omega arith)
             go false h = rw (chunkCount, h) (omega arith)
 
-    pub an-accepted-step-leaves-its-outcome : (x : List ℕ) → x ≡ valueOf c → (report : outcome.IngestReply) → report ≡ outcome.reportBy (w .low) page (kept .stop) (kept .dropped)
+    pub an-accepted-step-leaves-its-outcome : (x : List ℕ) → x ≡ valueOf c → (report : outcome.IngestReply) → report ≡ outcome.reportBy (isSet (w .mode)) (w .low) page (kept .stop) (kept .dropped)
         → (reply : LeafReport) → reply ≡ reportOut report → (store′ : List ℕ) → store′ ≡ put store (w .filled) x
         → Steps (outcome.ingestOn size w list store page k c 0) list (acceptedStep w kept (length list) k change (length x) reply) store′
     unfolding put
@@ -197,7 +197,7 @@ module _ (size : ℕ) (w : Work) (entries : ℕ) (store page : List ℕ) (k : Li
     the-step-has-room = (room .0, rw f (room .1), room .2)
 
     -- what earns no refusal in one list with so many entries is accepted in all of them, but is ready in that one
-    pub an-accepted-ingest-steps : (report : outcome.IngestReply) → report ≡ outcome.reportBy (w .low) page (kept .stop) (kept .dropped) → (reply : LeafReport) → reply ≡ reportOut report
+    pub an-accepted-ingest-steps : (report : outcome.IngestReply) → report ≡ outcome.reportBy (isSet (w .mode)) (w .low) page (kept .stop) (kept .dropped) → (reply : LeafReport) → reply ≡ reportOut report
         → (store′ : List ℕ) → store′ ≡ put store (w .filled) x → (r : IngestStep) → r ≡ acceptedStep w kept entries k change (length x) reply → (list : List Entry) → length list ≡ entries
         → Steps (outcome.ingestOn size w list store page k (changeOf change value) 0) list r store′
     an-accepted-ingest-steps report u reply b store′ s r e list l =

@@ -218,7 +218,7 @@ fn take_step(
     }
     let new = value_of(change, value);
     copy_in(new, store, work.filled);
-    let reply = report_out(report_of(work.low, page, a.kept));
+    let reply = report_out(report_of(work.mode != 0, work.low, page, a.kept));
     accepted_step(work, a.kept, entries, key, change, new.len(), reply)
 }
 

@@ -156,13 +156,15 @@ module _ (size : ℕ) (q : PageSize size) (w : Work) (list : List Entry) (store 
 
   flags : Flags w
   flags =
-      let h₁ = and-right (isFlag (w .based)) (isFlag (w .cut) && (isFlag (w .over) && isFlag (w .taken))) (c .known-flags) in
+      let h₀ = and-right (isFlag (w .mode)) (isFlag (w .based) && (isFlag (w .cut) && (isFlag (w .over) && isFlag (w .taken)))) (c .known-flags) in
+      let h₁ = and-right (isFlag (w .based)) (isFlag (w .cut) && (isFlag (w .over) && isFlag (w .taken))) h₀ in
       let h₂ = and-right (isFlag (w .cut)) (isFlag (w .over) && isFlag (w .taken)) h₁ in
       record {
-        based = leb-true _ _ (and-left (isFlag (w .based)) _ (c .known-flags));
+        mode = leb-true _ _ (and-left (isFlag (w .mode)) _ (c .known-flags));
+        based = leb-true _ _ (and-left (isFlag (w .based)) _ h₀);
         cut = leb-true _ _ (and-left (isFlag (w .cut)) _ h₁);
         over = leb-true _ _ (and-left (isFlag (w .over)) _ h₂);
-        taken = leb-true _ _ (and-right (isFlag (w .over)) (isFlag (w .taken)) h₂);
+        taken = leb-true _ _ (and-right (isFlag (w .over)) _ h₂);
       }
 
   base-floor : readsBase w ≡ true → w .floor ≡ w .latest

@@ -52,7 +52,7 @@ secondPage = build size (recordOf 60 30 ∷ [])
 
 -- a base of one record up to the key 50; a record of key 20 is put; the digest waits
 abbrev opens : Opened
-opens = openOf size (with-base firstPage zeroKey true (keyOf 50)) (openWork (with-none false)) list store
+opens = openOf size false (with-base firstPage zeroKey true (keyOf 50)) (openWork false (with-none false)) list store
 
 abbrev puts : Ingested
 puts = ingestOf size (opens .work) (opens .list) (opens .store) firstPage (keyOf 20) (some (record { value = replicate 6 20; flag = true }))
@@ -129,11 +129,12 @@ what-a-merge-keeps = record {
 
 -- ---- soundness
 
--- a work record, its fields in order
+-- a work record in the Rust's mode, its other fields in order
 abbrev work : ℕ → ℕ → ℕ → ℕ → ℕ → ℕ → ℕ → List ℕ → ℕ → List ℕ → ℕ → List ℕ → List ℕ → ℕ → List ℕ → Work
 work turn based low used filled count bytes latest cut cutoff over overriding floor taken last = record {
   turn = turn;
   based = based;
+  mode = 0;
   low = low;
   used = used;
   filled = filled;

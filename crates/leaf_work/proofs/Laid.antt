@@ -46,6 +46,7 @@ pub record Keyed (w : Work) : Type 0 where
   pub last : length (w .last) ≡ 32
 
 pub record Flags (w : Work) : Type 0 where
+  pub mode : w .mode ≤ 1
   pub based : w .based ≤ 1
   pub cut : w .cut ≤ 1
   pub over : w .over ≤ 1

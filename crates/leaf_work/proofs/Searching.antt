@@ -17,7 +17,7 @@ use Rattle.leaf_work.specs.declared.Work.{Work}
 use Rattle.leaf_work.specs.Tests.{bit}
 use Rattle.leaf_work.specs.TakingUp.{stop, drops, lowAfter, takenUp, restAfter}
 
-equal-either-way : (a b : List ℕ) → eqKey a b ≡ eqKey b a
+pub equal-either-way : (a b : List ℕ) → eqKey a b ≡ eqKey b a
 unfolding eqKey
 equal-either-way a b = go (eqb (num b) (num a)) refl
   where

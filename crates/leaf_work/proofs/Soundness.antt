@@ -76,7 +76,9 @@ module _ (size : ℕ) (w : Work) (list : List Entry) (store p page : List ℕ) (
   low-none e = let q : count p ≡ 0 = ap count (idle e) ∙ an-ignored-page-has-no-records in omega (arith, l .low-in)
 
   flags-right : knownFlags w ≡ true
-  flags-right = and-both (le-leb _ _ (k .flags .based)) (and-both (le-leb _ _ (k .flags .cut)) (and-both (le-leb _ _ (k .flags .over)) (le-leb _ _ (k .flags .taken))))
+  flags-right =
+      and-both (le-leb _ _ (k .flags .mode))
+      (and-both (le-leb _ _ (k .flags .based)) (and-both (le-leb _ _ (k .flags .cut)) (and-both (le-leb _ _ (k .flags .over)) (le-leb _ _ (k .flags .taken)))))
 
   operations-right : operations size w list store p ≡ true
   operations-right =

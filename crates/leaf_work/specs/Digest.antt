@@ -66,6 +66,7 @@ abbrev pub digestWork : Work → Cut → Work
 digestWork w p = record {
   turn = turnNumber (turnAfter (p .left));
   based = w .based;
+  mode = w .mode;
   low = 0;
   used = length (p .left);
   filled = total (p .left);

@@ -53,6 +53,28 @@ isWaiting w = eqb (w .turn) (turnNumber Waiting)
 abbrev pub isDone : Work → Bool
 isDone w = eqb (w .turn) (turnNumber Done)
 
+-- ---- the mode of document 02's M-100: the same work in mode m
+
+abbrev pub inMode : ℕ → Work → Work
+inMode m w = record {
+  turn = w .turn;
+  based = w .based;
+  mode = m;
+  low = w .low;
+  used = w .used;
+  filled = w .filled;
+  count = w .count;
+  bytes = w .bytes;
+  latest = w .latest;
+  cut = w .cut;
+  cutoff = w .cutoff;
+  over = w .over;
+  overriding = w .overriding;
+  floor = w .floor;
+  taken = w .taken;
+  last = w .last;
+}
+
 -- ---- the keys of the work record
 
 abbrev pub cutoffOf : Work → Option (List ℕ)

@@ -11,7 +11,7 @@ use Rattle.leaf_node.specs.Page.{start, lengthAt}
 use Rattle.leaf_model.specs.Work.{Open, Change, zeroKey, belowCutoff}
 use Rattle.leaf_work.specs.declared.Work.{Work}
 use Rattle.leaf_work.specs.declared.Entry.{Entry}
-use Rattle.leaf_work.specs.Tests.{bit, keyIf}
+use Rattle.leaf_work.specs.Tests.{isSet, bit, keyIf}
 use Rattle.leaf_work.specs.Lent.{blank, turnNumber, cutoffOf, regarded}
 use Rattle.leaf_work.specs.Pending.{Place, partAt, pendingPlaces}
 use Rattle.leaf_work.specs.TakingUp.{valueOf, reports, stop, drops, lowAfter, newEntries, countAfter, bytesAfter}
@@ -33,11 +33,13 @@ pub record Opened : Type 0 where
   pub list : List Entry
   pub store : List ℕ
 
--- an open work with nothing listed
-abbrev pub freshWork : Bool → List ℕ → Bool → List ℕ → Work
-freshWork based separator cut cutoff = record {
+-- An open work with nothing listed. Document 02, M-100: "a mode, chosen at opening and kept in the work record"; `every` is set where every dropped
+-- flagged record is reported.
+abbrev pub freshWork : Bool → Bool → List ℕ → Bool → List ℕ → Work
+freshWork every based separator cut cutoff = record {
   turn = turnNumber Open;
   based = bit based;
+  mode = bit every;
   low = 0;
   used = 0;
   filled = 0;
@@ -53,15 +55,15 @@ freshWork based separator cut cutoff = record {
   last = zeroKey;
 }
 
-abbrev pub openWork : Opening → Work
-openWork (with-base page separator cut cutoff) = freshWork true separator cut cutoff
-openWork (with-none cut) = freshWork false zeroKey false zeroKey
+abbrev pub openWork : Bool → Opening → Work
+openWork every (with-base page separator cut cutoff) = freshWork every true separator cut cutoff
+openWork every (with-none cut) = freshWork every false zeroKey false zeroKey
 
 -- "List and store are filled with zeros."; w is what the work held
-unfoldable pub openOf : ℕ → Opening → Work → List Entry → List ℕ → Opened
+unfoldable pub openOf : ℕ → Bool → Opening → Work → List Entry → List ℕ → Opened
 unfolding openVerdict
-openOf size x w list store = elim (eqb (openVerdict size x list store) accepted) [
-  | true ↦ record { reply = Accepted; work = openWork x; list = replicate (length list) blank; store = zeros (length store) }
+openOf size every x w list store = elim (eqb (openVerdict size x list store) accepted) [
+  | true ↦ record { reply = Accepted; work = openWork every x; list = replicate (length list) blank; store = zeros (length store) }
   | false ↦ record { reply = Refused (openVerdict size x list store); work = w; list = list; store = store }
 ]
 
@@ -85,14 +87,15 @@ pub record Ingested : Type 0 where
   pub store : List ℕ
 
 -- "Ingest answers the cell's offset and length in the base page in that case, and nothing otherwise." By what was found.
-abbrev pub reportBy : ℕ → List ℕ → ℕ → Bool → IngestReply
-reportBy low page stop dropped = elim (reports low page stop dropped) [ true ↦ Reported (start page stop) (lengthAt page stop) | false ↦ Quiet ]
+abbrev pub reportBy : Bool → ℕ → List ℕ → ℕ → Bool → IngestReply
+reportBy every low page stop dropped = elim (reports every low page stop dropped) [ true ↦ Reported (start page stop) (lengthAt page stop) | false ↦ Quiet ]
 
 -- the work record with another passed part, list and gauge; the key is the last one taken
 abbrev pub takenWork : Work → List ℕ → ℕ → ℕ → ℕ → ℕ → ℕ → Work
 takenWork w k low used filled count bytes = record {
   turn = w .turn;
   based = w .based;
+  mode = w .mode;
   low = low;
   used = used;
   filled = filled;
@@ -111,7 +114,7 @@ takenWork w k low used filled count bytes = record {
 -- `page` is the page as the work regards it
 module _ (size : ℕ) (w : Work) (list : List Entry) (store page k : List ℕ) (c : Option Change) where
   abbrev pub reportOf : IngestReply
-  reportOf = reportBy (w .low) page (stop w page k) (drops w page k)
+  reportOf = reportBy (isSet (w .mode)) (w .low) page (stop w page k) (drops w page k)
 
   -- "Base records below the key become pending; an equal one is dropped; the new one is pending behind them."
   abbrev pub ingestWork : Work
@@ -150,6 +153,7 @@ abbrev pub nextBaseWork : Work → List ℕ → Bool → List ℕ → Work
 nextBaseWork w separator cut cutoff = record {
   turn = turnNumber Open;
   based = 1;
+  mode = w .mode;
   low = 0;
   used = w .used;
   filled = w .filled;
@@ -174,6 +178,7 @@ abbrev pub removeWork : Work → Work
 removeWork w = record {
   turn = turnNumber Open;
   based = 0;
+  mode = w .mode;
   low = 0;
   used = w .used;
   filled = w .filled;

@@ -77,7 +77,7 @@ abbrev pub knownTurn : Work → Bool
 knownTurn w = isOpen w || isWaiting w || isDone w
 
 abbrev pub knownFlags : Work → Bool
-knownFlags w = isFlag (w .based) && (isFlag (w .cut) && (isFlag (w .over) && isFlag (w .taken)))
+knownFlags w = isFlag (w .mode) && (isFlag (w .based) && (isFlag (w .cut) && (isFlag (w .over) && isFlag (w .taken))))
 
 -- "the last key taken is below the cutoff"
 abbrev pub lastBelow : Work → Bool

@@ -1,5 +1,5 @@
 -- What an ingest of the key k takes up and drops. Document 01, "A work and its turns". `page` is the page as the work regards it.
-use mathlib.Core.Bool.{Bool, true, false, _&&_}
+use mathlib.Core.Bool.{Bool, true, false, _&&_, _||_}
 use mathlib.Core.Option.{Option, none, some}
 use mathlib.Core.List.{List, [], _∷_, _++_}
 use Prim.Native.Nat.{ℕ, _+_, _-_}
@@ -22,9 +22,10 @@ valueOf (some c) = c .value
 -- ---- by what was found: base records `low` up to `stop` are taken up, and the one at `stop` is dropped or not
 
 -- "The Rust calls `with_deleted_overflow` only when the dropped record has its flag set and at least one base record was taken up just before it
--- in the same call."
-abbrev pub reports : ℕ → List ℕ → ℕ → Bool → Bool
-reports low page stop dropped = dropped && (flagAt page stop && ltb low stop)
+-- in the same call." Document 02, M-100, where `every` is set: "every dropped flagged record is reported, whether or not anything was taken up
+-- before it, and nothing else is".
+abbrev pub reports : Bool → ℕ → List ℕ → ℕ → Bool → Bool
+reports every low page stop dropped = dropped && (flagAt page stop && (every || ltb low stop))
 
 -- no empty chunk is listed; the values in it have `sum` bytes
 abbrev pub chunkEntries : ℕ → ℕ → ℕ → List Entry

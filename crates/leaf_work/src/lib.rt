@@ -9,8 +9,11 @@ ghost use Rattle.leaf_work.specs.Outcome.{inScopeOf};
 pub struct Work {
     // 1 open, 2 waiting for a merge, 3 done; 0 is none of them, so that zeroed memory is not taken for an open work
     pub turn: u8,
-    // whether there is a base, and how many of its records were passed
+    // whether there is a base
     pub based: u8,
+    // which dropped flagged records an ingest reports: 0 those behind a base record that it took up, as the Rust does; 1 every one
+    pub mode: u8,
+    // how many of the base's records were passed
     pub low: usize,
     // entries and store bytes used
     pub used: usize,

@@ -26,7 +26,7 @@ added-requires c κs = search needs
 
 ingest-work-requires : tie.Need-ingest-work-requires
 ingest-work-requires c κs =
-    let valued = c .before .before .before .before .before .before in
+    let valued = c .before .before .before .before .before .before .before in
     let start = valued .before .before .before .before .before .before .before .before .before in
     let args = start .args in
     the-gauge-is-small _ _ _ (args .change) (args .value .now) _ _ _ (start .pre) _ (valued .value-of .ensures) _ (c .added .ensures .0)
@@ -43,7 +43,7 @@ same-length-3 c = search needs
 returns : tie.Need-returns
 returns c =
     let reported = c .before .before in
-    let copied = reported .before .before .before in
+    let copied = reported .before .before .before .before in
     let valued = copied .before .before in
     let listed = valued .before .before .before in
     let start = listed .before .before .before .before .before .before in

@@ -14,6 +14,9 @@ bit-of-requires c κs = search needs
 bit-of-requires-2 : tie.Need-bit-of-requires-2
 bit-of-requires-2 c κs = search needs
 
+bit-of-requires-3 : tie.Need-bit-of-requires-3
+bit-of-requires-3 c κs = search needs
+
 key-or-zeros-requires-2 : tie.Need-key-or-zeros-requires-2
 key-or-zeros-requires-2 c κs = search needs
 
@@ -27,5 +30,6 @@ fresh-work-spec =
     key-or-zeros-requires
     bit-of-requires
     bit-of-requires-2
+    bit-of-requires-3
     key-or-zeros-requires-2
     returns)

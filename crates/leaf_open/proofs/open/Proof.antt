@@ -20,7 +20,7 @@ same-length-3 : tie.Need-same-length-3
 same-length-3 c = search needs
 
 returns : tie.Need-returns
-returns c = a-refused-opening-changes-nothing _ _ _ _ _ _ _ (c .before .open-verdict .ensures) (c .if1 .taken)
+returns c = a-refused-opening-changes-nothing _ _ _ _ _ _ _ _ (c .before .open-verdict .ensures) (c .if1 .taken)
 
 settle-rows-requires : tie.Need-settle-rows-requires
 settle-rows-requires c κs = search needs
@@ -50,7 +50,7 @@ returns-2 c =
     let at-rows = at-keys .before .before .before in
     let tested = at-rows .before .before in
     let args = tested .before .before .before .before .before .before .before .args in
-    an-accepted-opening-clears-all _ _ _ _ _ _ _ (args .rows .now) (args .keys .now) (args .store .now) _
+    an-accepted-opening-clears-all _ _ _ _ _ _ _ _ (args .rows .now) (args .keys .now) (args .store .now) _
     (tested .before .open-verdict .ensures) (tested .if1 .left) _ _ _ _
     (c .fresh-work .ensures) (at-rows .settle-rows .ensures ∙ settling-none-clears-all _ (args .rows .now)) (at-keys .settle-keys .ensures ∙ settling-none-clears-all _ (args .keys .now))
     (at-store .settle-bytes .ensures ∙ settling-none-clears-all _ (args .store .now))

@@ -11,7 +11,7 @@ open-number-requires : tie.Need-open-number-requires
 open-number-requires c κs = search needs
 
 returns : tie.Need-returns
-returns c = λ list l. a-refused-opening-changes-nothing _ _ _ _ _ _ _ _ _ list l (c .before .open-number .ensures list _ l refl) (c .if1 .taken)
+returns c = λ list l. a-refused-opening-changes-nothing _ _ _ _ _ _ _ _ _ _ list l (c .before .open-number .ensures list _ l refl) (c .if1 .taken)
 
 settle-bytes-requires : tie.Need-settle-bytes-requires
 settle-bytes-requires c κs = search (all-may-be-in-use, needs)
@@ -27,7 +27,7 @@ returns-2 c =
     let settled = c .before .before .before in
     let tested = settled .before .before in
     let args = tested .before .before .before .before .args in
-    λ list l. an-accepted-opening-clears-all _ _ _ _ _ _ _ _ _ list l (tested .before .open-number .ensures list _ l refl) (tested .if1 .left) _ _ (c .fresh-work .ensures)
+    λ list l. an-accepted-opening-clears-all _ _ _ _ _ _ _ _ _ _ list l (tested .before .open-number .ensures list _ l refl) (tested .if1 .left) _ _ (c .fresh-work .ensures)
     (settled .settle-bytes .ensures ∙ settling-none-clears-all _ (args .store .now))
 
 pub open-step-spec : {M : Type 1} → statement M

@@ -42,7 +42,7 @@ report-out-requires c κs = search needs
 
 accepted-step-requires : tie.Need-accepted-step-requires
 accepted-step-requires c κs =
-    let valued = c .before .before .before .before .before .before in
+    let valued = c .before .before .before .before .before .before .before in
     let admitted = valued .before .before .before in
     let start = admitted .before .before .before .before in
     let args = start .args in
@@ -56,7 +56,7 @@ returns-2 : tie.Need-returns-2
 returns-2 c =
     let replied = c .before in
     let reported = replied .before in
-    let copied = reported .before .before .before in
+    let copied = reported .before .before .before .before in
     let valued = copied .before .before in
     let admitted = valued .before .before .before in
     let start = admitted .before .before .before .before in
