@@ -9,8 +9,9 @@ static uint8_t store[LEAF_STORE_LEAST], area[LEAF_PAGE_SIZE], tickets[LEAF_TICKE
 
 int main(void) {
     const uint8_t ring[32] = {1}, sprue[32] = {2}, none[32] = {0};
-    /* open: no base page, no separator, no cutoff */
-    uint8_t refusal = leaf_open(&work, list, LEAF_LIST_LEAST, store, sizeof store, 0, none, 0, none, 0, none);
+    /* open: no base page, no separator, no cutoff; every overflow cell that is dropped is reported */
+    uint8_t refusal = leaf_open(&work, list, LEAF_LIST_LEAST, store, sizeof store, LEAF_REPORT_EVERY, 0, none, 0, none,
+                                0, none);
     if (refusal) return refusal;
     /* ingest: keys in rising order, each with its value */
     refusal = leaf_ingest(&work, list, LEAF_LIST_LEAST, store, sizeof store, none, 0, ring, 1, 0,

@@ -68,7 +68,8 @@ static void print_pending(const uint8_t *base) {
 
 /* A page of three records: a work without a base gives it. Such a work ignores the page that it is lent. */
 static void make_page(uint8_t page[LEAF_PAGE_SIZE], uint8_t first, char letter, size_t len) {
-    must(leaf_open(&work, list, LEAF_LIST_LEAST, store, STORE, 0, page, LEAF_PAGE_SIZE, keys[0], 0, keys[0]));
+    must(leaf_open(&work, list, LEAF_LIST_LEAST, store, STORE, LEAF_REPORT_EVERY, 0, page, LEAF_PAGE_SIZE, keys[0], 0,
+                   keys[0]));
     for (int i = 0; i < 3; i++) ingest(page, first + i * 0x10, letter + i, len);
     digest(page);
     memcpy(page, area, LEAF_PAGE_SIZE);
@@ -79,7 +80,8 @@ int main(void) {
     make_page(left, 0x10, 'a', 300);
     make_page(right, 0x40, 'd', 1000);
     puts("changes from 00 to 40: 15 is new, 20 deleted, 30 changed");
-    must(leaf_open(&work, list, LEAF_LIST_LEAST, store, STORE, 1, left, LEAF_PAGE_SIZE, keys[0], 1, keys[0x40]));
+    must(leaf_open(&work, list, LEAF_LIST_LEAST, store, STORE, LEAF_REPORT_EVERY, 1, left, LEAF_PAGE_SIZE, keys[0], 1,
+                   keys[0x40]));
     ingest(left, 0x15, 'x', 200);
     ingest(left, 0x20, '-', 0);
     ingest(left, 0x30, 'y', 500);

@@ -73,7 +73,7 @@ fn print_pending(m: &mut Memory, page: &[u8]) {
 /// A page of three records: a work without a base gives it. Such a work ignores the page that it is lent.
 fn make_page(m: &mut Memory, first: u8, letter: u8, len: usize) -> Vec<u8> {
     let any = vec![0; PAGE];
-    must(call!(leaf_open(&mut m.work) of m; 0, any.as_ptr(), PAGE, &[0; 32], 0, &[0; 32]));
+    must(call!(leaf_open(&mut m.work) of m; 1, 0, any.as_ptr(), PAGE, &[0; 32], 0, &[0; 32]));
     (0..3).for_each(|i| ingest(m, &any, first + i * 0x10, letter + i, len));
     digest(m, &any);
     m.area[..PAGE].to_vec()
@@ -84,7 +84,7 @@ fn main() {
     let left = make_page(m, 0x10, b'a', 300);
     let right = make_page(m, 0x40, b'd', 1000);
     println!("changes from 00 to 40: 15 is new, 20 deleted, 30 changed");
-    must(call!(leaf_open(&mut m.work) of m; 1, left.as_ptr(), PAGE, &[0; 32], 1, &[0x40; 32]));
+    must(call!(leaf_open(&mut m.work) of m; 1, 1, left.as_ptr(), PAGE, &[0; 32], 1, &[0x40; 32]));
     ingest(m, &left, 0x15, b'x', 200);
     ingest(m, &left, 0x20, b'-', 0);
     ingest(m, &left, 0x30, b'y', 500);

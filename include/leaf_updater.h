@@ -90,6 +90,10 @@ enum LeafRefusal {
 
 /* ---- what is lent and answered. A key whose flag isn't set is zeros. */
 
+/* Which dropped records with their overflow flag set an ingest reports: those alone behind a base record that it took up, as nomt does, so
+ * that a cell which is replaced as the first thing in a leaf is never reported; or every one. */
+enum LeafMode { LEAF_REPORT_AFTER_KEPT = 0, LEAF_REPORT_EVERY = 1 };
+
 enum LeafTurn { LEAF_TURN_OPEN = 1, LEAF_TURN_WAITING = 2, LEAF_TURN_DONE = 3 };
 enum LeafKind { LEAF_KIND_UNUSED = 0, LEAF_KIND_INSERT = 1, LEAF_KIND_CHUNK = 2 };
 enum LeafHolder { LEAF_HOLDER_STORE = 1, LEAF_HOLDER_BASE = 2 };
@@ -97,8 +101,9 @@ enum LeafHolder { LEAF_HOLDER_STORE = 1, LEAF_HOLDER_BASE = 2 };
 /* The work record. Only the calls write it; most of what is changed by hand is refused by 8. */
 typedef struct {
     uint8_t turn;
-    uint8_t based; /* whether there is a base, and how many of its records were passed */
-    size_t low;
+    uint8_t based; /* whether there is a base */
+    uint8_t mode;  /* chosen at opening */
+    size_t low;    /* how many of the base's records were passed */
     size_t used; /* entries and store bytes in use */
     size_t filled;
     size_t count; /* listed records, and the bytes of their values */
@@ -174,18 +179,19 @@ typedef struct {
 
 /*
  * Opens a work: with a base, that is a page, its separator and, where cut is set, its cutoff; or with none (based is 0) and no cutoff.
+ * The mode, one of enum LeafMode, stays until the work is opened again; any number but 0 is LEAF_REPORT_EVERY.
  * Answers 0 or the refusal. Leaves a new work record, and zeros in all of list and store, whatever all three held.
  * Refuses by: 1 to 5 for the base's page; 6; 7.
  * Stack: 960 bytes.
  */
-uint8_t leaf_open(LeafWork *work, LeafEntry *list, size_t list_len, uint8_t *store, size_t store_len, uint8_t based,
-                  const uint8_t *page, size_t page_len, const uint8_t separator[LEAF_KEY_SIZE], uint8_t cut,
-                  const uint8_t cutoff[LEAF_KEY_SIZE]);
+uint8_t leaf_open(LeafWork *work, LeafEntry *list, size_t list_len, uint8_t *store, size_t store_len, uint8_t mode,
+                  uint8_t based, const uint8_t *page, size_t page_len, const uint8_t separator[LEAF_KEY_SIZE],
+                  uint8_t cut, const uint8_t cutoff[LEAF_KEY_SIZE]);
 
 /*
  * Takes a key into an open work: with a new value and its overflow flag where put is set, else as a deletion, which ignores value and
- * flag. The base's records below the key become pending; one with this key is dropped. Where the dropped one has its overflow flag set and
- * at least one was taken up just before it in this call, its place in the page is reported.
+ * flag. The base's records below the key become pending; one with this key is dropped. Where the dropped one has its overflow flag set,
+ * its place in the page is reported: always in mode LEAF_REPORT_EVERY, else if at least one was taken up just before it in this call.
  * Leaves at most two new entries in the list, and the value in the store.
  * Refuses by: 1 to 6 for the base's page; 7; 8; 9 when waiting or done; 12; 13; 14; 15; 16. A deletion is never refused by 12, 15 or 16.
  * Stack: 2,880 bytes.

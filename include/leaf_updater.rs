@@ -35,6 +35,9 @@ pub struct Work {
     pub turn: u8,
     /// Whether there is a base.
     pub based: u8,
+    /// Which dropped flagged records an ingest reports, chosen at opening: 0 those behind a base record that it took up, as nomt does; 1 every
+    /// one.
+    pub mode: u8,
     /// How many base records are passed; 0 where the page is ignored.
     pub low: usize,
     /// Entries in use, and store bytes in use.
@@ -141,6 +144,7 @@ extern "C" {
         list_len: usize,
         store: *mut u8,
         store_len: usize,
+        mode: u8,
         based: u8,
         page: *const u8,
         page_len: usize,

@@ -84,7 +84,9 @@ impl Sequence {
 
     fn open(&mut self, rng: &mut Rng, tally: &mut Tally) -> Result<(), Mismatch> {
         let (list, store) = (self.list, self.store);
+        let every = rng.between(0, 1) == 1;
         let mut call = Call::Open {
+            every,
             base: None,
             cutoff: None,
             list,
@@ -96,6 +98,7 @@ impl Sequence {
             let made = made::base(rng, &self.keys, first, cut);
             self.take_bounds(first, &made);
             call = Call::Open {
+                every,
                 base: Some(made.base),
                 cutoff: made.cutoff,
                 list,

@@ -34,7 +34,12 @@ pub struct Out<'a> {
 
 /// The calls of a side. Each changes what it is lent.
 pub trait Calls {
-    fn open(state: &mut State, base: Option<&Base>, cutoff: Option<Key>) -> Ran<()>;
+    fn open(
+        state: &mut State,
+        every: bool,
+        base: Option<&Base>,
+        cutoff: Option<Key>,
+    ) -> Ran<()>;
     fn ingest(state: &mut State, page: &[u8], key: &Key, change: &Change) -> Ran<Report>;
     fn digest(state: &mut State, page: &[u8], out: Out) -> Ran<Digested>;
     fn next_base(state: &mut State, base: &Base, cutoff: Option<Key>) -> Ran<()>;
@@ -117,11 +122,12 @@ impl<C: Calls> Sequence<C> {
     pub fn answer(&mut self, call: &Call) -> Answered {
         match call {
             Call::Open {
+                every,
                 base,
                 cutoff,
                 list,
                 store,
-            } => self.open(base.as_ref(), *cutoff, *list, *store),
+            } => self.open_over(unopened(*list, *store), *every, base.as_ref(), *cutoff),
             Call::Ingest {
                 key,
                 change,
@@ -150,20 +156,16 @@ impl<C: Calls> Sequence<C> {
         }
     }
 
-    fn open(
+    /// An opening that is lent this work record, list and store, whatever they hold.
+    pub fn open_over(
         &mut self,
+        held: State,
+        every: bool,
         base: Option<&Base>,
         cutoff: Option<Key>,
-        list: usize,
-        store: usize,
     ) -> Answered {
-        self.open_over(unopened(list, store), base, cutoff)
-    }
-
-    /// An opening that is lent this work record, list and store, whatever they hold.
-    pub fn open_over(&mut self, held: State, base: Option<&Base>, cutoff: Option<Key>) -> Answered {
         let mut new = held.clone();
-        let reply = accepted(C::open(&mut new, base, cutoff))?;
+        let reply = accepted(C::open(&mut new, every, base, cutoff))?;
         let answer = settle(reply, &held, &new)?;
         if answer == Answer::Accepted {
             self.state = new;

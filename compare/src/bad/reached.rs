@@ -83,6 +83,7 @@ impl Reached {
         let based = rng.between(0, 5) > 0;
         let limit = if based { made.limit } else { 1 << 20 };
         let call = Call::Open {
+            every: rng.between(0, 1) == 1,
             cutoff: made.cutoff.filter(|_| based),
             base: based.then_some(made.base),
             list,

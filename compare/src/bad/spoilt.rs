@@ -249,6 +249,7 @@ fn random_work(rng: &mut Rng) -> Work {
     work.overriding = key();
     let mut flag = || rng.between(0, 8).min(1) as u8;
     (work.based, work.cut, work.over, work.taken) = (flag(), flag(), flag(), flag());
+    work.mode = [0, 1, 2, 255][rng.between(0, 3)];
     work.turn = rng.between(0, 4) as u8;
     let mut small = || rng.between(0, 6);
     (work.low, work.used, work.count) = (small(), small(), small());

@@ -56,6 +56,7 @@ pub fn run(rng: &mut Rng, reached: &Reached, tally: &mut Tally) -> Result<(), Mi
 fn run_call(lent: &Plain, call: Call, due: Due, tally: &mut Tally) -> Result<(), Mismatch> {
     match &call {
         Call::Open {
+            every,
             base,
             cutoff,
             list,
@@ -64,7 +65,8 @@ fn run_call(lent: &Plain, call: Call, due: Due, tally: &mut Tally) -> Result<(),
             let mut held = lent.state.clone();
             held.list.resize(*list, Entry::default());
             held.store.resize(*store, 0);
-            open(&call, held, base.as_ref(), *cutoff, due, tally)
+            let opening = (*every, base.as_ref(), *cutoff);
+            open(&call, held, opening, due, tally)
         }
         _ => Pair::answer_on_damaged(lent, &call, due, tally).map(drop),
     }
@@ -74,14 +76,13 @@ fn run_call(lent: &Plain, call: Call, due: Due, tally: &mut Tally) -> Result<(),
 fn open(
     call: &Call,
     held: State,
-    base: Option<&Base>,
-    cutoff: Option<Key>,
+    (every, base, cutoff): (bool, Option<&Base>, Option<Key>),
     due: Due,
     tally: &mut Tally,
 ) -> Result<(), Mismatch> {
     let (mut plain, mut library) = (Plain::default(), Library::default());
-    let answer = plain.open_over(held.clone(), base, cutoff);
-    let ours = library.open_over(held, base, cutoff);
+    let answer = plain.open_over(held.clone(), every, base, cutoff);
+    let ours = library.open_over(held, every, base, cutoff);
     let as_due = due.is_none_or(|number| answer == Ok(Answer::Refused(number)));
     if !as_due || answer != ours || plain.state != library.state {
         let lines = vec![

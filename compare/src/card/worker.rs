@@ -99,6 +99,7 @@ impl<'a, S: Side> Worker<'a, S> {
         let (base, cutoff) = leaf.map_or((None, None), |(base, cutoff)| (Some(base), cutoff));
         let (list, store) = (self.list, self.store);
         let call = Call::Open {
+            every: false,
             base,
             cutoff,
             list,

@@ -17,8 +17,13 @@ pub enum LibraryCalls {}
 pub type Library = Sequence<LibraryCalls>;
 
 impl Calls for LibraryCalls {
-    fn open(state: &mut State, base: Option<&Base>, cutoff: Option<Key>) -> Ran<()> {
-        work::open(state, base, cutoff)
+    fn open(
+        state: &mut State,
+        every: bool,
+        base: Option<&Base>,
+        cutoff: Option<Key>,
+    ) -> Ran<()> {
+        work::open(state, every, base, cutoff)
     }
 
     fn ingest(state: &mut State, page: &[u8], key: &Key, change: &Change) -> Ran<Report> {

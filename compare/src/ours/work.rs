@@ -50,7 +50,7 @@ pub mod bare {
         let (page, length) = (base.page.as_ptr(), base.page.len());
         let separator = &base.separator;
         let work = &mut state.work;
-        call!(leaf_open, work, state, 1, page, length, separator, 1, cutoff) == 0
+        call!(leaf_open, work, state, 0, 1, page, length, separator, 1, cutoff) == 0
     }
 
     /// An ingest of a new value.
@@ -161,7 +161,7 @@ macro_rules! put_fields {
 
 impl Laid for Work {
     unsafe fn put(&self, at: *mut Self) {
-        put_fields!(self, at; turn, based, low, used, filled, count, bytes, latest, cut, cutoff, over);
+        put_fields!(self, at; turn, based, mode, low, used, filled, count, bytes, latest, cut, cutoff, over);
         put_fields!(self, at; overriding, floor, taken, last);
     }
 }
@@ -300,13 +300,19 @@ impl<'a> LentBase<'a> {
 
 // SAFETY of all calls: pointers and the lengths that belong to them, structs aligned, places of 32 bytes for keys.
 
-pub fn open(state: &mut State, base: Option<&Base>, cutoff: Option<Key>) -> Ran<()> {
+pub fn open(
+    state: &mut State,
+    every: bool,
+    base: Option<&Base>,
+    cutoff: Option<Key>,
+) -> Ran<()> {
     let mut lent = LentWork::new(state);
     let new = LentBase::new(base, cutoff);
     let (page, length) = (new.lent_page.ptr(), new.page.len());
     let [separator, end] = [0, 1].map(|i| new.lent_keys[i].ptr().cast());
     let (based, cut) = new.flags(base.is_some(), cutoff.is_some());
-    let refusal = changing!(leaf_open, lent, based, page, length, separator, cut, end);
+    let mode = flag_of(every, new.keys[1][30]);
+    let refusal = changing!(leaf_open, lent, mode, based, page, length, separator, cut, end);
     new.kept()?;
     *state = lent.left(refusal)?;
     Ok(refused_or_done(refusal))

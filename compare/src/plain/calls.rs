@@ -11,13 +11,15 @@ use crate::vectors::calls::{Base, Change};
 /// Offset and length, in the base page, of a dropped overflow cell that is reported.
 pub type Report = Option<(usize, usize)>;
 
-pub fn open(state: &mut State, base: Option<&Base>, cutoff: Option<Key>) -> Verdict {
+/// M-100: "a mode, chosen at opening and kept in the work record".
+pub fn open(state: &mut State, every: bool, base: Option<&Base>, cutoff: Option<Key>) -> Verdict {
     verdict::open(state, base, cutoff)?;
     // docs/DECISIONS.md, one floor: without a base the floor is zeros
     let separator = base.map_or(NO_KEY, |base| base.separator);
     state.work = Work {
         turn: OPEN,
         based: base.is_some().into(),
+        mode: every.into(),
         latest: separator,
         cut: cutoff.is_some().into(),
         cutoff: cutoff.unwrap_or(NO_KEY),
@@ -45,12 +47,14 @@ pub fn ingest(state: &mut State, page: &[u8], key: &Key, change: &Change) -> Res
     state.work.low = to + usize::from(equal);
     state.work.taken = 1;
     state.work.last = *key;
-    Ok(dropped_overflow(page, from, to, equal))
+    let told = state.work.mode == 1 || from < to;
+    Ok(dropped_overflow(page, to, equal && told))
 }
 
-/// "only when the dropped record has its flag set and at least one base record was taken up just before it in the same call"
-fn dropped_overflow(page: &[u8], from: usize, to: usize, equal: bool) -> Report {
-    if !equal || from == to {
+/// "only when the dropped record has its flag set and at least one base record was taken up just before it in the same call"; in
+/// M-100's mode "every dropped flagged record is reported".
+fn dropped_overflow(page: &[u8], to: usize, told: bool) -> Report {
+    if !told {
         return None;
     }
     let (offset, length, flag) = cell(page, to);

@@ -16,8 +16,13 @@ pub enum PlainCalls {}
 pub type Plain = Sequence<PlainCalls>;
 
 impl Calls for PlainCalls {
-    fn open(state: &mut State, base: Option<&Base>, cutoff: Option<Key>) -> Ran<()> {
-        Ok(open(state, base, cutoff))
+    fn open(
+        state: &mut State,
+        every: bool,
+        base: Option<&Base>,
+        cutoff: Option<Key>,
+    ) -> Ran<()> {
+        Ok(open(state, every, base, cutoff))
     }
 
     fn ingest(state: &mut State, page: &[u8], key: &Key, change: &Change) -> Ran<Report> {

@@ -61,7 +61,7 @@ fn bounds_are_sound(state: &State) -> bool {
 
 /// docs/DECISIONS.md: numbers, "a value that isn't listed is unsound".
 fn turn_and_flags_are_listed(work: &Work) -> bool {
-    let flags = [work.based, work.cut, work.over, work.taken];
+    let flags = [work.based, work.mode, work.cut, work.over, work.taken];
     [OPEN, WAITING, DONE].contains(&work.turn) && flags.iter().all(|&flag| flag <= 1)
 }
 

@@ -125,13 +125,14 @@ fn unknown_turn(rng: &mut Rng, plain: &mut Plain) -> Due {
     Some(SOUNDNESS)
 }
 
-/// Flags that say which page and bounds count are damaged only where they are set, so that 1 to 6 stay as they were.
+/// Flags that say which page and bounds count are damaged only where they are set, so that 1 to 6 stay as they were. The mode is one.
 fn unknown_flag(rng: &mut Rng, plain: &mut Plain) -> Due {
     let work = &mut plain.state.work;
-    let flag = match rng.between(0, 3) {
+    let flag = match rng.between(0, 4) {
         0 => Some(&mut work.based).filter(|flag| **flag == 1),
         1 => Some(&mut work.cut).filter(|flag| **flag == 1),
         2 => Some(&mut work.over),
+        3 => Some(&mut work.mode),
         _ => Some(&mut work.taken),
     }?;
     *flag = [2, 255][rng.between(0, 1)];

@@ -1,7 +1,6 @@
-//! `compare exhaustive CALLS`: every sequence of up to so many calls over four keys and six value sizes, from five openings.
+//! `compare exhaustive CALLS`: every sequence of up to so many calls over four keys and six value sizes, from five openings in both modes.
 //! A refused call changes nothing, so no sequence goes on behind one: what would follow is a shorter sequence.
 
-use super::made::opening;
 use super::pair::Pair;
 use crate::oracle::Key;
 use crate::plain::digest::{asked, TICKET};
@@ -40,17 +39,32 @@ fn go_on(pair: &Pair, calls: usize, tally: &mut Tally) -> Result<(), Mismatch> {
     Ok(())
 }
 
-/// No base; with and without a cutoff an empty base, and one with two flagged records.
+/// No base; with and without a cutoff an empty base, and one with two flagged records; each in both modes.
 fn openings() -> Vec<Call> {
-    let mut openings = vec![opening(None, None, STORE)];
+    let mut bases = vec![(None, None)];
     for records in [vec![], FIRST_BYTES[1..3].iter().map(record).collect()] {
         let page = build(&records);
         for cutoff in [None, Some(key(CUTOFF))] {
-            let (page, separator) = (page.clone(), [0; 32]);
-            openings.push(opening(Some(Base { page, separator }), cutoff, STORE));
+            bases.push((Some(page.clone()), cutoff));
         }
     }
-    openings
+    let modes = [false, true].into_iter();
+    let both = modes.flat_map(|every| bases.iter().map(move |base| opening(every, base)));
+    both.collect()
+}
+
+fn opening(every: bool, (page, cutoff): &(Option<Vec<u8>>, Option<Key>)) -> Call {
+    let base = page.clone().map(|page| Base {
+        page,
+        separator: [0; 32],
+    });
+    Call::Open {
+        every,
+        base,
+        cutoff: *cutoff,
+        list: 121,
+        store: STORE,
+    }
 }
 
 fn record(first: &u8) -> Record {

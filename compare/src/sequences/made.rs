@@ -61,9 +61,10 @@ impl MadeBase {
     }
 }
 
-/// An opening with the shortest list.
+/// An opening in the Rust's mode with the shortest list.
 pub fn opening(base: Option<Base>, cutoff: Option<Key>, store: usize) -> Call {
     Call::Open {
+        every: false,
         base,
         cutoff,
         list: 121,

@@ -175,6 +175,7 @@ fn opening(rng: &mut Rng, plain: &Plain) -> (Call, u8) {
     let separator = inner_key(rng);
     let (base, cutoff, of_page) = new_base(rng, &reasons, separator);
     let call = Call::Open {
+        every: rng.between(0, 1) == 1,
         base: based.then_some(base),
         cutoff: if based {
             cutoff

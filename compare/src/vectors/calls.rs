@@ -5,6 +5,8 @@ use crate::oracle::Key;
 
 pub enum Call {
     Open {
+        /// Whether every dropped flagged record is reported, or those alone that the Rust reports.
+        every: bool,
         base: Option<Base>,
         cutoff: Option<Key>,
         list: usize,
@@ -154,6 +156,7 @@ fn read_open(fields: &mut Fields) -> Result<Call, String> {
         Some(read_base(fields)?)
     };
     Ok(Call::Open {
+        every: fields.word("report=every"),
         base,
         cutoff: fields.key_or_none("cutoff")?,
         list: fields.number("list")?,

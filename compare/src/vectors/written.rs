@@ -9,13 +9,15 @@ impl Call {
     pub fn line(&self) -> String {
         let fields = match self {
             Call::Open {
+                every,
                 base,
                 cutoff,
                 list,
                 store,
             } => {
                 let base = write_base(base.as_ref(), cutoff);
-                format!("{base} list={list} store={store}")
+                let mode = if *every { " report=every" } else { "" };
+                format!("{base} list={list} store={store}{mode}")
             }
             Call::Ingest {
                 key,

@@ -92,6 +92,7 @@ course-more : (s : State) (xs : List Call) (x : Call) → courseOf 4096 s (xs ++
 course-more s xs x = λ j. record { now = nexts-more s xs x j; past = happenings-more s xs x j }
 
 record Reached (c : Course) : Type 0 where
+  every : Bool
   opening : Opening
   formed : FormedOpening opening
   work : Work
@@ -100,10 +101,11 @@ record Reached (c : Course) : Type 0 where
   accepted : openVerdict 4096 opening list store ≡ 0
   calls : List Call
   calls-formed : All Formed calls
-  course-is : courseOf 4096 (opened 4096 opening work list store) calls ≡ c
+  course-is : courseOf 4096 (opened 4096 every opening work list store) calls ≡ c
 
 one-more : {c d : Course} → Reached c → (x : Call) → Formed x → goes c x ≡ d → Reached d
 one-more h x f e = record {
+  every = h .every;
   opening = h .opening;
   formed = h .formed;
   work = h .work;
@@ -112,25 +114,26 @@ one-more h x f e = record {
   accepted = h .accepted;
   calls = h .calls ++ (x ∷ []);
   calls-formed = all-append (h .calls-formed) (cons f nil);
-  course-is = course-more (opened 4096 (h .opening) (h .work) (h .list) (h .store)) (h .calls) x ∙ ap (λ (y : Course). goes y x) (h .course-is) ∙ e;
+  course-is = course-more (opened 4096 (h .every) (h .opening) (h .work) (h .list) (h .store)) (h .calls) x ∙ ap (λ (y : Course). goes y x) (h .course-is) ∙ e;
 }
 
-number-of-an-opening : (x : Opening) (w : Work) (list : List Entry) (store : List ℕ) → replyNumber (openOf 4096 x w list store .reply) ≡ openVerdict 4096 x list store
+number-of-an-opening : (every : Bool) (x : Opening) (w : Work) (list : List Entry) (store : List ℕ) → replyNumber (openOf 4096 every x w list store .reply) ≡ openVerdict 4096 x list store
 unfolding openOf
-number-of-an-opening x w list store = go (eqb (openVerdict 4096 x list store) 0) refl
+number-of-an-opening every x w list store = go (eqb (openVerdict 4096 x list store) 0) refl
   where
-    go : (b : Bool) → eqb (openVerdict 4096 x list store) 0 ≡ b → replyNumber (openOf 4096 x w list store .reply) ≡ openVerdict 4096 x list store
+    go : (b : Bool) → eqb (openVerdict 4096 x list store) 0 ≡ b → replyNumber (openOf 4096 every x w list store .reply) ≡ openVerdict 4096 x list store
     go true e = rw (openOf, e) (sym (eqb-true (openVerdict 4096 x list store) 0 e))
     go false e = rw (openOf, e)
 
 reached : {c : Course} → Run c → Reached c
-reached (run.opened x f w w′ list list′ store store′ r o z) = record {
+reached (run.opened every x f w w′ list list′ store store′ r o z) = record {
+  every = every;
   opening = x;
   formed = f;
   work = w;
   list = list;
   store = store;
-  accepted = sym (number-of-an-opening x w list store) ∙ sym (o .0) ∙ z;
+  accepted = sym (number-of-an-opening every x w list store) ∙ sym (o .0) ∙ z;
   calls = [];
   calls-formed = nil;
   course-is = rw (o .1, o .2, o .3);
@@ -190,4 +193,4 @@ pub the-claim-holds-of-the-exported-calls : {c : Course} → Run c → Claim 409
 the-claim-holds-of-the-exported-calls h =
     let r = reached h in
     claim-by-calls (subst (Claim 4096 (ByTwins 4096)) (r .course-is)
-    (claim-holds-of-every-sequence 4096 a-page-has-4096-bytes (r .opening) (r .formed) (r .work) (r .list) (r .store) (r .accepted) (r .calls) (r .calls-formed)))
+    (claim-holds-of-every-sequence 4096 a-page-has-4096-bytes (r .every) (r .opening) (r .formed) (r .work) (r .list) (r .store) (r .accepted) (r .calls) (r .calls-formed)))

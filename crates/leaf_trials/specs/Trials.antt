@@ -41,7 +41,7 @@ putAll [] = []
 putAll (r ∷ rs) = ingest [] (r .key) (some (record { value = r .value; flag = r .flag })) ∷ putAll rs
 
 abbrev opens : Opening → State
-opens x = opened size x (openWork (with-none false)) (replicate 121 blank) (zeros 8192)
+opens x = opened size false x (openWork false (with-none false)) (replicate 121 blank) (zeros 8192)
 
 abbrev noBase : State
 noBase = opens (with-none false)

@@ -14,9 +14,9 @@ use Rattle.leaf_work.specs.Outcome.{replyNumber, Opened, openOf, Ingested, inge
 use Rattle.leaf_take.specs.declared.LeafReport.{LeafReport}
 use Rattle.leaf_take.specs.Reply.{reportOut}
 
-abbrev pub OpenSays : Opening → Work → List Entry → List ℕ → ℕ → Work → List Entry → List ℕ → Type 0
-OpenSays x w list store r w′ list′ store′ =
-    (let o : Opened = openOf 4096 x w list store in (r ≡ replyNumber (o .reply)) × (w′ ≡ o .work) × (list′ ≡ o .list) × (store′ ≡ o .store))
+abbrev pub OpenSays : Bool → Opening → Work → List Entry → List ℕ → ℕ → Work → List Entry → List ℕ → Type 0
+OpenSays every x w list store r w′ list′ store′ =
+    (let o : Opened = openOf 4096 every x w list store in (r ≡ replyNumber (o .reply)) × (w′ ≡ o .work) × (list′ ≡ o .list) × (store′ ≡ o .store))
 
 abbrev pub IngestSays : Work → List Entry → List ℕ → List ℕ → List ℕ → Option Change → LeafReport → Work → List Entry → List ℕ → Type 0
 IngestSays w list store page key c r w′ list′ store′ =

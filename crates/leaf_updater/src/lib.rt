@@ -124,24 +124,26 @@ pub extern "C" fn leaf_page_rebuild(
 // ---- works. The work record is lent and changed in place; the list is a lent slice of entries. A flag is set where it is not 0. An
 // absent page, separator or cutoff is ignored, whatever stands there. A refused call changes no byte.
 
-// Opens a work, with a base or with none: list and store are filled with zeros. Answers 0, or the refusal.
+// Opens a work in a mode, with a base or with none: list and store are filled with zeros. Answers 0, or the refusal.
 #[no_mangle]
 pub extern "C" fn leaf_open(
     work: &mut Work,
     list: &mut [Entry],
     store: &mut [u8],
+    mode: u8,
     based: u8,
     page: &[u8],
     separator: &[u8; 32],
     cut: u8,
     cutoff: &[u8; 32],
 ) -> u8
-    ensures { λ r. ⌜ OpenSays (openingOf (isSet based) (now (page .entry)) (now (separator .entry)) (isSet cut) (now (cutoff .entry))) (now (work .entry)) (now (list .entry)) (now (store .entry)) r (now (work .exit)) (now (list .exit)) (now (store .exit)) ⌝ }
+    ensures { λ r. ⌜ OpenSays (isSet mode) (openingOf (isSet based) (now (page .entry)) (now (separator .entry)) (isSet cut) (now (cutoff .entry))) (now (work .entry)) (now (list .entry)) (now (store .entry)) r (now (work .exit)) (now (list .exit)) (now (store .exit)) ⌝ }
 {
     let step = open_step(
         *work,
         list.len(),
         store,
+        mode,
         based,
         page,
         separator,

@@ -76,6 +76,7 @@ impl Run {
             work: Work {
                 turn: 0,
                 based: 0,
+                mode: 0,
                 low: 0,
                 used: 0,
                 filled: 0,
@@ -150,6 +151,7 @@ fn open(
     let separator = key(v, KEY);
     let cutoff = key(v, CUTOFF);
     let after = leaf_open::open(
+        false,
         byte(v, FIRST) != 0,
         page,
         &separator,

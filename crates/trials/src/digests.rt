@@ -89,7 +89,7 @@ fn digested<'a>(
     let mut rows = [[0usize; 5]; 121];
     let mut keys = [[0u8; 32]; 121];
     let mut store = [0u8; 9000];
-    let opening = opened(based, page, cut, &mut rows, &mut keys, &mut store).work;
+    let opening = opened(false, based, page, cut, &mut rows, &mut keys, &mut store).work;
     let work = put_all(
         opening,
         &mut rows,

@@ -15,5 +15,6 @@ fn main() {
     works::run();
     digests::run();
     line::say(b"\nDocument 02\n\n");
+    works::reports();
     pages::positions();
 }

@@ -15,6 +15,7 @@ pub(crate) fn no_work() -> Work {
     Work {
         turn: 0,
         based: 0,
+        mode: 0,
         low: 0,
         used: 0,
         filled: 0,
@@ -31,8 +32,10 @@ pub(crate) fn no_work() -> Work {
     }
 }
 
-// An opening, with a base where `based` is set and a cutoff where `cut` is. The calls are few and large, so each has a function of its own.
+// An opening, with a base where `based` is set and a cutoff where `cut` is, in the mode that reports `every` dropped flagged record or in
+// the Rust's. The calls are few and large, so each has a function of its own.
 pub(crate) fn opened(
+    every: bool,
     based: bool,
     page: &[u8],
     cut: bool,
@@ -42,12 +45,12 @@ pub(crate) fn opened(
 ) -> Updated {
     let none = [0u8; 32];
     let far = [0xffu8; 32];
-    leaf_open::open(based, page, &none, cut, &far, no_work(), rows, keys, store)
+    leaf_open::open(every, based, page, &none, cut, &far, no_work(), rows, keys, store)
 }
 
 fn opens(rows: &mut [[usize; 5]], keys: &mut [[u8; 32]]) -> u8 {
     let mut store = [0u8; 4096];
-    opened(false, &[0u8; 1], false, rows, keys, &mut store).refusal
+    opened(false, false, &[0u8; 1], false, rows, keys, &mut store).refusal
 }
 
 fn list_of_120() {
@@ -69,11 +72,18 @@ fn list_of_121() {
 }
 
 // An opening, with a base where `based` is set, and an ingest.
-fn ingested(based: bool, page: &[u8], key: &[u8; 32], change: Change, value: &[u8]) -> LeafReport {
+fn ingested(
+    every: bool,
+    based: bool,
+    page: &[u8],
+    key: &[u8; 32],
+    change: Change,
+    value: &[u8],
+) -> LeafReport {
     let mut rows = [[0usize; 5]; 121];
     let mut keys = [[0u8; 32]; 121];
     let mut store = [0u8; 4096];
-    let work = opened(based, page, false, &mut rows, &mut keys, &mut store).work;
+    let work = opened(every, based, page, false, &mut rows, &mut keys, &mut store).work;
     let after = leaf_ingest::ingest(
         work,
         &mut rows,
@@ -91,7 +101,7 @@ fn ingested(based: bool, page: &[u8], key: &[u8; 32], change: Change, value: &[u
 // A new value in a work without a base.
 fn value_trial(label: &[u8], value: &[u8], refusal: u8) {
     say(label);
-    let after = ingested(false, &[0u8; 1], &[0u8; 32], Change::Put(false), value);
+    let after = ingested(false, false, &[0u8; 1], &[0u8; 32], Change::Put(false), value);
     say_reply(after.refusal);
     close(after.refusal == refusal);
 }
@@ -105,10 +115,10 @@ fn say_report(reported: u8) {
 }
 
 // A base of two flagged records, of which the one with this key is deleted.
-fn report_trial(label: &[u8], first: u8, reported: u8) {
+fn report_trial(label: &[u8], every: bool, first: u8, reported: u8) {
     say(label);
     let page = flagged_pair();
-    let after = ingested(true, &page, &key_from(first), Change::Delete, &[0u8; 1]);
+    let after = ingested(every, true, &page, &key_from(first), Change::Delete, &[0u8; 1]);
     say_report(after.reported);
     close((after.refusal == 0) & (after.reported == reported));
 }
@@ -126,6 +136,12 @@ pub(crate) fn run() {
         &[7u8; 1333],
         12,
     );
-    report_trial(b"  flagged first base record deleted          ", 0, 0);
-    report_trial(b"  flagged second one deleted first           ", 1, 1);
+    report_trial(b"  flagged first base record deleted          ", false, 0, 0);
+    report_trial(b"  flagged second one deleted first           ", false, 1, 1);
+}
+
+// Document 02, M-100: the same where every dropped flagged record is reported.
+pub(crate) fn reports() {
+    report_trial(b"M-100: flagged first base record deleted     ", true, 0, 1);
+    report_trial(b"M-100: flagged second one deleted first      ", true, 1, 1);
 }
