@@ -7,6 +7,7 @@ use crate::hex;
 use crate::lent::Damage;
 use crate::oracle::beatree::leaf::node::{LeafBuilder, LeafNode};
 use crate::oracle::io::{PagePool, PAGE_SIZE};
+use crate::oracle::Key;
 use crate::ours::pages::{LeafValue, LentPage, NO_SUCH_INDEX, SHORT_AREA};
 use crate::random::{Mismatch, Tally};
 use crate::rng::Rng;

@@ -34,12 +34,7 @@ pub struct Out<'a> {
 
 /// The calls of a side. Each changes what it is lent.
 pub trait Calls {
-    fn open(
-        state: &mut State,
-        every: bool,
-        base: Option<&Base>,
-        cutoff: Option<Key>,
-    ) -> Ran<()>;
+    fn open(state: &mut State, every: bool, base: Option<&Base>, cutoff: Option<Key>) -> Ran<()>;
     fn ingest(state: &mut State, page: &[u8], key: &Key, change: &Change) -> Ran<Report>;
     fn digest(state: &mut State, page: &[u8], out: Out) -> Ran<Digested>;
     fn next_base(state: &mut State, base: &Base, cutoff: Option<Key>) -> Ran<()>;

@@ -85,7 +85,7 @@ fn changed_under(
     store: usize,
 ) -> Option<State> {
     let mut state = unopened(list, store);
-    open(&mut state, Some(base), cutoff).ok()?;
+    open(&mut state, false, Some(base), cutoff).ok()?;
     for key in keys {
         let value = vec![7; VALUE];
         let put = Change::Put { value, flag: false };

@@ -17,12 +17,7 @@ pub enum LibraryCalls {}
 pub type Library = Sequence<LibraryCalls>;
 
 impl Calls for LibraryCalls {
-    fn open(
-        state: &mut State,
-        every: bool,
-        base: Option<&Base>,
-        cutoff: Option<Key>,
-    ) -> Ran<()> {
+    fn open(state: &mut State, every: bool, base: Option<&Base>, cutoff: Option<Key>) -> Ran<()> {
         work::open(state, every, base, cutoff)
     }
 

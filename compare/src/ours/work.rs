@@ -300,12 +300,7 @@ impl<'a> LentBase<'a> {
 
 // SAFETY of all calls: pointers and the lengths that belong to them, structs aligned, places of 32 bytes for keys.
 
-pub fn open(
-    state: &mut State,
-    every: bool,
-    base: Option<&Base>,
-    cutoff: Option<Key>,
-) -> Ran<()> {
+pub fn open(state: &mut State, every: bool, base: Option<&Base>, cutoff: Option<Key>) -> Ran<()> {
     let mut lent = LentWork::new(state);
     let new = LentBase::new(base, cutoff);
     let (page, length) = (new.lent_page.ptr(), new.page.len());

@@ -16,12 +16,7 @@ pub enum PlainCalls {}
 pub type Plain = Sequence<PlainCalls>;
 
 impl Calls for PlainCalls {
-    fn open(
-        state: &mut State,
-        every: bool,
-        base: Option<&Base>,
-        cutoff: Option<Key>,
-    ) -> Ran<()> {
+    fn open(state: &mut State, every: bool, base: Option<&Base>, cutoff: Option<Key>) -> Ran<()> {
         Ok(open(state, every, base, cutoff))
     }
 
