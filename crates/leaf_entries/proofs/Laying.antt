@@ -94,3 +94,14 @@ module _ {A : Type 0} (x : A) (l : List A) (from : ℕ) where
   clearing-all =
       let full : length l ≤ length (take from l ++ replicate (length l - from) x) = omega (arith, written (length l - from)) in
       ap (λ (r : List A). take from l ++ replicate (length l - from) x ++ r) (drop-of-length-le l full) ∙ append-nil (take from l ++ replicate (length l - from) x)
+
+-- ---- no entry yet
+
+pub laying-no-entry : (rows keys : List (List ℕ)) (old : List Entry) → overwrite (gathered (take 0 rows) (take 0 keys)) old ≡ old
+laying-no-entry [] keys old = refl
+laying-no-entry (r ∷ rows) [] old = refl
+laying-no-entry (r ∷ rows) (k ∷ keys) old = refl
+
+pub laying-no-part : {A B : Type 0} (f : A → B) (l : List A) (old : List B) → overwrite (map f (take 0 l)) old ≡ old
+laying-no-part f [] old = refl
+laying-no-part f (x ∷ l) old = refl

@@ -1,5 +1,6 @@
--- Laws for the functions' proofs: `Folded` and `Laying` on plain values; `Locals` and `Freed` for the walks, on their locals; `Again`,
--- `Shared` and `LocalArray` on slices that are lent for a call and come back.
+-- Laws for the functions' proofs: `Folded` and `Laying` on plain values. The others are cited by the walks that tools/walkgen writes, in this crate and above it:
+-- `Locals` and `Freed` on their locals; `Again`, `Shared`, `LocalArray` and `Parts` on slices, local arrays and parts of slices that are lent for a call and
+-- come back; `Order` on the index of a loop; `Clauses` on contracts of several clauses.
 pub mod Folded
 pub mod Laying
 pub mod Locals
@@ -7,3 +8,6 @@ pub mod Freed
 pub mod Again
 pub mod Shared
 pub mod LocalArray
+pub mod Parts
+pub mod Order
+pub mod Clauses

@@ -1,5 +1,5 @@
 // The list as a lent slice of entries, each a plain struct: the functions that read, insert, split and drain entries. The prover's own walk
-// does not cover a slice of structs, so each of them is walked by hand.
+// does not cover a slice of structs, so their walks are written by tools/walkgen.
 use leaf_passed::Passing;
 use leaf_passed::Seek;
 use leaf_passed::Unused;
