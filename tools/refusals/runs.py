@@ -19,9 +19,9 @@ FAILS = "attempt to divide by zero, in `check::expect`"
 
 
 def given(root, crate):
-    """What the expressions of a crate's edits share: functions of Rattle beside them."""
-    path = root / "crates" / crate / "must-fail" / "shown.txt"
-    return path.read_text() if path.is_file() else ""
+    """What the expressions of a crate's edits share: functions of Rattle beside them, and beside those of the crates below."""
+    files = (root / "crates" / c / "must-fail" / "shown.txt" for c in scratch.with_dependencies(root, [crate]))
+    return "\n".join(f.read_text() for f in files if f.is_file())
 
 
 def program(given, answers):

@@ -16,14 +16,14 @@ def dependencies(root):
 
 
 def copy_crates(root, to, crates, parts):
-    """Copies these parts of crates, and a crates.txt of them, to a folder."""
-    listed = dependencies(root)
+    """Copies these parts of crates to a folder, and their lines of crates.txt as they stand, since rt's stamps go by these."""
     for crate in crates:
         for part in parts:
             source = root / "crates" / crate / part
             if source.is_dir():
                 shutil.copytree(source, to / "crates" / crate / part)
-    (to / "crates.txt").write_text("".join(f"{c}: {' '.join(listed[c])}\n" for c in crates))
+    lines = (root / "crates.txt").read_text().splitlines(keepends=True)
+    (to / "crates.txt").write_text("".join(line for line in lines if line.partition(":")[0].strip() in crates))
 
 
 def copy_proved(root, to, crates):
