@@ -4,12 +4,11 @@ import re
 from dataclasses import dataclass
 
 ERROR = re.compile(r"^(?P<path>\S+):\d+:\d+: error: `(?P<declaration>[^`]+)`: ")
-NOTE = re.compile(r"^(?P<path>\S+):\d+:\d+: note: ")
 # a function without a proof file, which the prover's own search does not close
 UNPROVED = re.compile(r"^fn \w+::(?P<function>\w+): no proof: .*`search` does not close (?P<needs>.*)")
 # what rests on another declaration, or on a need that the changed code no longer has, says nothing of the fact itself
 MISFIT = re.compile(r"was not admitted|has no `Need-")
-# nor does a refusal that is over once another definition is unfolded
+# nor does a refusal that is over once another definition is unfolded, as a note behind it says
 UNFOLDED = "of this declaration was admitted by the kernel"
 
 
@@ -33,22 +32,15 @@ class Error:
 def errors_of(log):
     """The errors of a log, in order."""
     errors = []
-    speaks_of_error = False
-    for line in log.splitlines():
-        error, unproved = ERROR.match(line), UNPROVED.match(line)
+    for said in re.findall(r"^\S.*(?:\n  .*)*", log, re.M):
+        error, unproved = ERROR.match(said), UNPROVED.match(said)
         if error:
-            errors.append(Error(place_of(error["path"]), error["declaration"], line))
+            errors.append(Error(place_of(error["path"]), error["declaration"], said))
         elif unproved:
-            errors += [Error(unproved["function"], need, line) for need in re.findall("`([^`]+)`", unproved["needs"])]
-        elif NOTE.match(line) and UNFOLDED in line and errors:
+            errors += [Error(unproved["function"], need, said) for need in re.findall("`([^`]+)`", unproved["needs"])]
+        elif UNFOLDED in said and errors:
             for e in errors:
                 e.is_over_unfolded |= (e.file, e.declaration) == (errors[-1].file, errors[-1].declaration)
-        elif line.startswith("  ") and speaks_of_error:
-            errors[-1].text += "\n" + line
-            continue
-        elif line.startswith("  "):
-            continue
-        speaks_of_error = bool(error)
     return errors
 
 

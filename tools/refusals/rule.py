@@ -24,6 +24,8 @@ class Complaint:
 def check(root, only=()):
     """The complaints about all edits of a repository, or about those of some crates; `rt must-fail` has been run."""
     edits = [e for e in edits_of(root) if not only or e.crate in only]
+    if not edits:
+        raise BadEdit("no wrong answer was checked")
     found = []
     for edit in edits:
         found += form(root, edit)
@@ -46,6 +48,8 @@ def form(root, edit):
     def complain(answer, reason, mend, line=None):
         return Complaint(edit.path, line or answer.line, answer.name, reason, mend)
 
+    if not edit.answers:
+        yield Complaint(edit.path, 1, edit.label, "it has no wrong answer", "begin it with `wrong: NAME`")
     taken = set()
     for answer in edit.answers:
         if not answer.changes or not answer.places:
@@ -57,8 +61,7 @@ def form(root, edit):
         elif answer.is_of_code():
             if not answer.shown:
                 yield complain(answer, "nothing shows that it is wrong", "write `shown: EXPRESSION`, which holds of the crate and not with this answer")
-            source = root / "crates" / edit.crate / answer.changes[0].file
-            functions = {function_at(source.read_text(), c.old) for c in answer.changes}
+            functions = {function_at((root / "crates" / edit.crate / c.file).read_text(), c.old) for c in answer.changes}
             if functions != {p.file for p in answer.places}:
                 yield complain(answer, f"it changes {', '.join(sorted(functions))}, and another proof is to refuse it", "name the function that it changes")
         else:

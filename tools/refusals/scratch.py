@@ -1,12 +1,13 @@
 """Scratch repositories: copies of crates in which rt runs without touching the repository."""
 
+import os
 import re
 import shutil
+import signal
 import subprocess
-from pathlib import Path
 
-# a run that takes longer goes on for ever
-SECONDS = 600
+# what takes longer goes on for ever
+SECONDS = 900
 
 
 def dependencies(root):
@@ -52,5 +53,10 @@ def with_dependencies(root, crates):
 
 def rt(folder, *words):
     """Runs rt there; what it wrote, to both streams."""
-    done = subprocess.run(["rt", *words], cwd=Path(folder), stdout=subprocess.PIPE, stderr=subprocess.STDOUT, text=True, timeout=SECONDS)
-    return done.stdout
+    run = subprocess.Popen(["rt", *words], cwd=folder, stdout=subprocess.PIPE, stderr=subprocess.STDOUT, text=True, start_new_session=True)
+    try:
+        return run.communicate(timeout=SECONDS)[0]
+    except subprocess.TimeoutExpired:
+        # rt itself, and the prover or program that it has started
+        os.killpg(run.pid, signal.SIGKILL)
+        return f"rt {' '.join(words)} did not end within {SECONDS} seconds"
