@@ -44,37 +44,53 @@ def check(root, only=()):
 
 def form(root, edit):
     """Complaints that need no run: an answer says all that it must, and in the form that can tell what refused it."""
-
-    def complain(answer, reason, mend, line=None):
-        return Complaint(edit.path, line or answer.line, answer.name, reason, mend)
-
     if not edit.answers:
         yield Complaint(edit.path, 1, edit.label, "it has no wrong answer", "begin it with `wrong: NAME`")
-    taken = set()
     for answer in edit.answers:
-        if not answer.changes or not answer.places:
-            yield complain(answer, "it changes nothing, or names no place that must refuse it", "write `old:`, `new:` and `refused: PLACE [DECLARATION]`")
-        elif not all(c.file.startswith(("src/", "specs/")) for c in answer.changes):
-            yield complain(answer, "it changes a proof", "change code or a definition alone")
-        elif edit.changed != edit.crate and answer.is_of_code():
-            yield complain(answer, "it changes the code of a lower crate, which the upper one does not see", "change a definition of it")
-        elif answer.is_of_code():
-            if not answer.shown:
-                yield complain(answer, "nothing shows that it is wrong", "write `shown: EXPRESSION`, which holds of the crate and not with this answer")
-            functions = {function_at((root / "crates" / edit.crate / c.file).read_text(), c.old) for c in answer.changes}
-            if functions != {p.file for p in answer.places}:
-                yield complain(answer, f"it changes {', '.join(sorted(functions))}, and another proof is to refuse it", "name the function that it changes")
-        else:
-            if answer.shown:
-                yield complain(answer, "a definition does not run", "drop `shown:`; a computed row tells that it is wrong")
-            if len(edit.answers) > 1:
-                yield complain(answer, "a wrong definition stands with others, any of which may be what is refused", "give it an edit of its own")
-            if not any(is_computed_row(root / "crates" / edit.crate, p.file, p.declaration) for p in answer.places):
-                yield complain(answer, "no computed row is to refuse it", "name one: a declaration without parameters, of equations that `refl` alone proves")
+        for reason, mend in amiss(root, edit, answer):
+            yield Complaint(edit.path, answer.line, answer.name, reason, mend)
+    yield from shared_places(edit)
+
+
+def amiss(root, edit, answer):
+    if not answer.changes or not answer.places:
+        return [("it changes nothing, or names no place that must refuse it", "write `old:`, `new:` and `refused: PLACE [DECLARATION]`")]
+    if not all(c.file.startswith(("src/", "specs/")) for c in answer.changes):
+        return [("it changes a proof", "change code or a definition alone")]
+    return amiss_in_code(root, edit, answer) if answer.is_of_code() else amiss_in_definition(root, edit, answer)
+
+
+def amiss_in_code(root, edit, answer):
+    if edit.changed != edit.crate:
+        yield "it changes the code of a lower crate, which the upper one does not see", "change a definition of it"
+    if not answer.shown:
+        yield "nothing shows that it is wrong", "write `shown: EXPRESSION`, which holds of the crate and not with this answer"
+    functions = {function_at((root / "crates" / edit.changed / c.file).read_text(), c.old) for c in answer.changes}
+    if functions != {p.file for p in answer.places}:
+        yield f"it changes {', '.join(sorted(functions))}, and another proof is to refuse it", "name the function that it changes"
+
+
+def amiss_in_definition(root, edit, answer):
+    if answer.shown:
+        yield "a definition does not run", "drop `shown:`; a computed row tells that it is wrong"
+    if len(edit.answers) > 1:
+        yield "a wrong definition stands with others, any of which may be what is refused", "give it an edit of its own"
+    if not any(is_row(root, edit, p) for p in answer.places):
+        yield "no computed row is to refuse it", "name one: a declaration without parameters, of equations that `refl` alone proves"
+
+
+def is_row(root, edit, place):
+    return is_computed_row(root / "crates" / edit.crate, place.file, place.declaration)
+
+
+def shared_places(edit):
+    """Complaints about places that two answers name, one of which may be refused for the other."""
+    taken = []
+    for answer in edit.answers:
         for place in answer.places:
-            if {(place.file, ""), (place.file, place.declaration)} & taken or (not place.declaration and place.file in {f for f, _ in taken}):
-                yield complain(answer, f"another answer of this edit is refused in {place} too", "name the declaration, or keep one of them", place.line)
-            taken.add((place.file, place.declaration))
+            if any(place.file == p.file and (place.declaration == p.declaration or not place.declaration or not p.declaration) for p in taken):
+                yield Complaint(edit.path, place.line, answer.name, f"another answer of this edit is refused in {place} too", "name the declaration, or keep one of them")
+        taken += answer.places
 
 
 # ---- what the prover said
@@ -82,26 +98,29 @@ def form(root, edit):
 
 def refusal(root, edit, upper):
     """Complaints about places that did not refuse their answer, or not by a fact that no longer holds."""
-    name, line = (edit.answers[0].name, edit.answers[0].line) if edit.answers else (edit.label, 1)
+    first = edit.answers[0]
     try:
-        log = upper.refusal(edit) if edit.changed != edit.crate else own_log(root, edit)
+        log = own_log(root, edit) if edit.changed == edit.crate else upper.refusal(edit)
     except BadEdit as bad:
-        yield Complaint(edit.path, line, name, str(bad), "the old text stands in its file once")
-        return
-    if log is None and edit.changed != edit.crate:
-        yield Complaint(edit.path, line, name, f"{edit.changed} is no longer proved with it", f"keep to a definition that {edit.changed} proves; what it refuses itself is an edit of its own")
-        return
+        return [Complaint(edit.path, first.line, first.name, str(bad), "the old text stands in its file once")]
+    if log is None and edit.changed == edit.crate:
+        return [Complaint(edit.path, first.line, first.name, "there is no log of this edit on the crate as it is", f"run `rt must-fail {edit.crate}` first")]
     if log is None:
-        yield Complaint(edit.path, line, name, "there is no log of this edit on the crate as it is", f"run `rt must-fail {edit.crate}` first")
-        return
+        return [Complaint(edit.path, first.line, first.name, f"{edit.changed} is no longer proved with it", "keep to a definition that its own crate proves; what that crate refuses is an edit of its own")]
     errors = logs.errors_of(log)
-    for answer in edit.answers:
-        for place in answer.places:
-            there = logs.at(errors, place)
-            row = is_computed_row(root / "crates" / edit.crate, place.file, place.declaration)
-            if not any(e.is_computed() if row else e.is_fact() for e in there):
-                why = "only because the proof no longer fits" if there else "not at all"
-                yield Complaint(edit.path, place.line, answer.name, f"{place} refused it {why}", "name a place whose fact no longer holds, or drop it: it may be a right answer, spelt otherwise")
+    return [
+        Complaint(edit.path, place.line, answer.name, f"{place} refused it {why}", "name a place whose fact no longer holds, or drop it: it may be a right answer, spelt otherwise")
+        for answer in edit.answers
+        for place in answer.places
+        if (why := unrefused(logs.at(errors, place), is_row(root, edit, place)))
+    ]
+
+
+def unrefused(there, of_row):
+    """How the errors at a place fall short of a fact that no longer holds; nothing where one of them is such."""
+    if any(e.is_computed() if of_row else e.is_fact() for e in there):
+        return ""
+    return "only because the proof no longer fits" if there else "not at all"
 
 
 def own_log(root, edit):
