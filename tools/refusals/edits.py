@@ -85,8 +85,9 @@ def read_edit(path, crate, changed):
         elif not answers:
             raise BadEdit(f"{path}:{number}: `{word}:` before any `wrong: NAME`")
         elif word == "refused":
-            place, *declaration = rest.split()
-            answers[-1].places.append(Place(number, place, *declaration[:1]))
+            if len(rest.split()) not in (1, 2):
+                raise BadEdit(f"{path}:{number}: `refused:` names a PLACE and at most one DECLARATION")
+            answers[-1].places.append(Place(number, *rest.split()))
         elif word == "shown":
             answers[-1].shown.append(rest)
         elif word == "old":

@@ -6,7 +6,6 @@ Nothing is proved for such a run: `rt try` takes the sources as they are.
 """
 
 import re
-from concurrent.futures import ThreadPoolExecutor
 from pathlib import Path
 from tempfile import TemporaryDirectory
 
@@ -59,18 +58,15 @@ def brief(said):
 def complaints(root, crate, answers):
     """Of each answer whose run does not show that it is wrong: the answer, what is amiss, and how to mend it."""
     shared = given(root, crate)
-    with ThreadPoolExecutor(2) as pool:
-        unchanged = {}
-        if answers and outcome(root, crate, shared, answers, []) != "holds":
-            unchanged = dict(zip(range(len(answers)), pool.map(lambda a: outcome(root, crate, shared, [a], []), answers)))
-        changed = list(pool.map(lambda a: outcome(root, crate, shared, [a], [a]), answers))
-    for i, answer in enumerate(answers):
-        before = unchanged.get(i, "holds")
+    all_hold = not answers or outcome(root, crate, shared, answers, []) == "holds"
+    for answer in answers:
+        before = "holds" if all_hold else outcome(root, crate, shared, [answer], [])
+        after = outcome(root, crate, shared, [answer], [answer])
         if before == "fails":
             yield answer, "its expression does not hold of the crate as it is", "write one that does"
         elif before != "holds":
             yield answer, f"its expression does not run: {before}", "mend the `shown:` line, or shown.txt beside the edit"
-        elif changed[i] == "holds":
+        elif after == "holds":
             yield answer, "its expression still holds with this answer in the crate", "show an input on which the answer is another one, or drop it: it may be a right answer, spelt otherwise"
-        elif changed[i] != "fails":
-            yield answer, f"with this answer in the crate the run does not end in its expression: {changed[i]}", "keep to an edit that compiles and an input on which it answers"
+        elif after != "fails":
+            yield answer, f"with this answer in the crate the run does not end in its expression: {after}", "keep to an edit that compiles and an input on which it answers"
