@@ -11,7 +11,7 @@ export RT_JOBS ?= 4
 # a step: its name and its command; says how long it took
 step = @start=$$(date +%s) && echo "== $(1)" && $(2) && echo "== $(1): $$(($$(date +%s) - start)) s"
 
-.PHONY: run test bench growth layout claims library header symbols examples compare
+.PHONY: run test bench growth layout claims library header symbols examples refusals compare
 
 run:
 	$(call step,trials proved with all that it stands on (log: build/run.log),tools/quietly build/run.log rt check trials)
@@ -19,8 +19,8 @@ run:
 
 # `rt ci` comes last, since it removes target/, and so that its 'N passed, 0 failed' is the last line: what reads its logs says
 # nothing where all is well
-test: layout claims library header symbols examples compare
-	@echo "== rt ci: every crate from nothing, every must-fail edit, every program; then, silently, that each wrong answer was refused for itself"
+test: layout claims library header symbols examples refusals compare
+	@echo "== rt ci: every crate from nothing, every must-fail edit, every program; then, silently, that each wrong answer is wrong and was refused for that"
 	@rt ci
 	@tools/check-refusals
 
@@ -42,6 +42,10 @@ symbols: library
 
 examples: library
 	$(call step,examples in C and Rust,tools/examples)
+
+# what check-refusals says after `rt ci` is worth something only if it finds out what is not wrong
+refusals: library
+	$(call step,false wrong answers found out,tools/quietly build/refusals.log tools/test-check-refusals)
 
 compare: library
 	$(call step,comparing with the Rust,tools/with-nomt tools/compare $(SECONDS_OF_RANDOM) $(SEED))
