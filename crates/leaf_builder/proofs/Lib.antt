@@ -4,3 +4,4 @@ pub mod Pushing
 pub mod Writing
 pub mod Shifting
 pub mod Rebuilding
+pub mod Examples

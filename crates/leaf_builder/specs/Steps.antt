@@ -40,12 +40,16 @@ pub record Chunk (p : List ℕ) (from to m j at : ℕ) : Type 0 where
 abbrev pub pointerMoved : List ℕ → ℕ → ℕ → ℕ → List ℕ
 pointerMoved p i first at = keyAt p i ++ le16 (tagged (at + (offsetAt p i - first)) (flagAt p i))
 
+-- what stands behind the pointers of records `from` up to `i`, which go from pointer j on
+abbrev pub behind : List ℕ → ℕ → ℕ → ℕ → List ℕ
+behind d from i j = drop (pointer (j + (i - from))) d
+
 -- Document 02, M-103: "after each record the pointers up to it are final and the later ones as before". The records `from` up to `i` of p were
 -- gone through, out of those up to `to`; their pointers go from j on into d, which was `before`.
 pub record PointersUpTo (p : List ℕ) (from to j at : ℕ) (before : List ℕ) (i : ℕ) (d : List ℕ) : Type 0 where
   -- as they stand in the finished page
   pub final : take (34 * (i - from)) (drop (pointer j) d) ≡ take (34 * (i - from)) (pointers at (recordsBetween p from to))
-  pub later : drop (pointer (j + (i - from))) d ≡ drop (pointer (j + (i - from))) before
+  pub later : behind d from i j ≡ behind before from i j
   -- and so are the bytes before them
   pub earlier : take (pointer j) d ≡ take (pointer j) before
   pub same-length : length d ≡ length before

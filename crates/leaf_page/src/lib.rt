@@ -80,7 +80,7 @@ fn found_value(c: Cell) -> LeafValue
         flag: bit(c.flag),
         offset: c.offset,
         len: c.len,
-        position: 0,
+        position: 0, // a found key's index isn't asked for
     }
 }
 

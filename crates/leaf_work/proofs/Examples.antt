@@ -1,7 +1,8 @@
 -- Computed examples on pages of 200 bytes, where all limits are small: a merge and a cutoff removal through the calls; for each clause of soundness
--- a work that breaks it alone; and a digest rule by rule, so that a wrong definition fails in the part that is about it. Assumes nothing.
+-- a work that breaks it alone; a digest rule by rule, so that a wrong definition fails in the part that is about it; and reports by the mode. Assumes
+-- nothing.
 use mathlib.Core.Path.{_≡_, refl}
-use mathlib.Core.Bool.{true, false}
+use mathlib.Core.Bool.{Bool, true, false}
 use mathlib.Core.Option.{none, some}
 use mathlib.Core.List.{List, [], _∷_, _++_}
 use Prim.Native.Nat.{ℕ}
@@ -19,12 +20,12 @@ use Rattle.leaf_model.specs.Cut.{Cut, targetOf, cut, cutAll}
 use Rattle.leaf_model.specs.Work.{Leaf, zeroKey, plan, leavesBy}
 use Rattle.leaf_work.specs.declared.Work.{Work}
 use Rattle.leaf_work.specs.declared.Entry.{Entry}
-use Rattle.leaf_work.specs.Lent.{blank, insertAt, chunkOf}
+use Rattle.leaf_work.specs.Lent.{blank, insertAt, chunkOf, inMode}
 use Rattle.leaf_work.specs.Pending.{held, inBase, chunkPlaces, entryPlaces}
 use Rattle.leaf_work.specs.Sound.{sound}
 use Rattle.leaf_work.specs.TakingUp.{stop, drops}
 use Rattle.leaf_work.specs.Verdict.{with-base, with-none, baseVerdict, keysVerdict, lentVerdict, openVerdict, ingestVerdict, digestVerdict, nextBaseVerdict, removeVerdict}
-use Rattle.leaf_work.specs.Outcome.{Quiet, IngestRefused, Opened, openWork, openOf, Ingested, ingestOn, ingestOf, Accepted, Refused, nextBaseOf, removeCutoffOf}
+use Rattle.leaf_work.specs.Outcome.{IngestReply, Quiet, Reported, IngestRefused, Opened, openWork, openOf, Ingested, ingestOn, ingestOf, Accepted, Refused, nextBaseOf, removeCutoffOf}
 use Rattle.leaf_work.specs.Digest.{Finished, Merge, Digested, pagesOf, digestWork, digestDone, digestOn, digestOf}
 
 abbrev size : ℕ
@@ -294,4 +295,38 @@ digest-raises-the-floor : Floor
 digest-raises-the-floor = record {
   records-are-kept = refl;
   nothing-is-kept = refl;
+}
+
+-- ---- document 02, M-100: which dropped records are reported
+
+-- a flagged record of five bytes, a plain one of three, a flagged one without bytes
+abbrev cells : List ℕ
+cells = build size (recordOf 10 5 ∷ record { key = keyOf 30; value = replicate 3 30; flag = false } ∷ recordOf 40 0 ∷ [])
+
+-- the key k is deleted first, in a mode
+abbrev deletes : Bool → ℕ → IngestReply
+deletes every k =
+    let o : Opened = openOf size every (with-base cells zeroKey false zeroKey) (openWork false (with-none false)) list store in
+    ingestOf size (o .work) (o .list) (o .store) cells (keyOf k) none .reply
+
+pub record ReportsByMode : Type 0 where
+  pub the-rust-is-silent-on-the-first : deletes false 10 ≡ Quiet
+  pub the-rust-reports-behind-a-kept-one : deletes false 40 ≡ Reported 200 0
+  pub every-one-is-reported : deletes true 10 ≡ Reported 192 5
+  pub also-an-empty-one : deletes true 40 ≡ Reported 200 0
+  pub no-plain-one : deletes true 30 ≡ Quiet
+  pub no-absent-one : deletes true 20 ≡ Quiet
+  -- a mode that isn't listed
+  pub mode-two : verdict (inMode 2 (openWork false (with-none false))) [] [] ≡ 8
+
+reports-go-by-the-mode : ReportsByMode
+unfolding num bytesOf ltKey eqKey shared sharedBits leading separateOf bodyLimit recordLimit valueLimit mergeBelow bulkAbove bulkTarget values total word count keyAt numberAt flagAt offsetAt start lengthAt valueAt recordAt run recordsBetween records valuesSize allBelow offsetStep offsetInside offsetsRight valueFits valuesFit keyStep keysRise pageVerdict placeFrom searchOf le16 tagged pointers build targetOf cut cutAll plan held inBase chunkPlaces entryPlaces sound stop drops baseVerdict keysVerdict lentVerdict openVerdict ingestVerdict digestVerdict nextBaseVerdict removeVerdict openOf ingestOn digestOn nextBaseOf removeCutoffOf
+reports-go-by-the-mode = record {
+  the-rust-is-silent-on-the-first = refl;
+  the-rust-reports-behind-a-kept-one = refl;
+  every-one-is-reported = refl;
+  also-an-empty-one = refl;
+  no-plain-one = refl;
+  no-absent-one = refl;
+  mode-two = refl;
 }

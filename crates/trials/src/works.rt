@@ -45,7 +45,18 @@ pub(crate) fn opened(
 ) -> Updated {
     let none = [0u8; 32];
     let far = [0xffu8; 32];
-    leaf_open::open(every, based, page, &none, cut, &far, no_work(), rows, keys, store)
+    leaf_open::open(
+        every,
+        based,
+        page,
+        &none,
+        cut,
+        &far,
+        no_work(),
+        rows,
+        keys,
+        store,
+    )
 }
 
 fn opens(rows: &mut [[usize; 5]], keys: &mut [[u8; 32]]) -> u8 {
@@ -101,7 +112,14 @@ fn ingested(
 // A new value in a work without a base.
 fn value_trial(label: &[u8], value: &[u8], refusal: u8) {
     say(label);
-    let after = ingested(false, false, &[0u8; 1], &[0u8; 32], Change::Put(false), value);
+    let after = ingested(
+        false,
+        false,
+        &[0u8; 1],
+        &[0u8; 32],
+        Change::Put(false),
+        value,
+    );
     say_reply(after.refusal);
     close(after.refusal == refusal);
 }
@@ -118,7 +136,14 @@ fn say_report(reported: u8) {
 fn report_trial(label: &[u8], every: bool, first: u8, reported: u8) {
     say(label);
     let page = flagged_pair();
-    let after = ingested(every, true, &page, &key_from(first), Change::Delete, &[0u8; 1]);
+    let after = ingested(
+        every,
+        true,
+        &page,
+        &key_from(first),
+        Change::Delete,
+        &[0u8; 1],
+    );
     say_report(after.reported);
     close((after.refusal == 0) & (after.reported == reported));
 }
@@ -136,8 +161,18 @@ pub(crate) fn run() {
         &[7u8; 1333],
         12,
     );
-    report_trial(b"  flagged first base record deleted          ", false, 0, 0);
-    report_trial(b"  flagged second one deleted first           ", false, 1, 1);
+    report_trial(
+        b"  flagged first base record deleted          ",
+        false,
+        0,
+        0,
+    );
+    report_trial(
+        b"  flagged second one deleted first           ",
+        false,
+        1,
+        1,
+    );
 }
 
 // Document 02, M-100: the same where every dropped flagged record is reported.
