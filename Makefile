@@ -11,7 +11,7 @@ export RT_JOBS ?= 4
 # a step: its name and its command; says how long it took
 step = @start=$$(date +%s) && echo "== $(1)" && $(2) && echo "== $(1): $$(($$(date +%s) - start)) s"
 
-.PHONY: run test bench growth layout claims library header symbols examples refusals compare
+.PHONY: run test bench growth layout claims library walks header symbols examples refusals compare
 
 run:
 	$(call step,trials proved with all that it stands on (log: build/run.log),tools/quietly build/run.log rt check trials)
@@ -19,7 +19,7 @@ run:
 
 # `rt ci` comes last, since it removes target/, and so that its 'N passed, 0 failed' is the last line: what reads its logs says
 # nothing where all is well
-test: layout claims library header symbols examples refusals compare
+test: layout claims library walks header symbols examples refusals compare
 	@echo "== rt ci: every crate from nothing, every must-fail edit, every program; then, silently, that each wrong answer is wrong and was refused for that"
 	@rt ci
 	@tools/check-refusals
@@ -33,6 +33,10 @@ claims:
 # `rt staticlib` alone would prove what the library stands on one crate after the other
 library:
 	$(call step,static library,tools/quietly build/library.log sh -c 'rt check $$(sed -n "s/^leaf_updater: //p" crates.txt) && rt staticlib leaf_updater')
+
+# behind the library, since `rt mir` proves what a crate stands on
+walks: library
+	$(call step,walks beside their descriptions,tools/test-walkgen && tools/walkgen --check)
 
 header:
 	$(call step,header and Rust declarations beside the source,tools/check-layout)

@@ -6,7 +6,7 @@
     spelling, rows   how terms of antt are spelt; types, their values and their laws
     context          what the proof has at hand at a step, by name
     parameters       how a function begins and ends
-    operands, assignments, elements, parts, lending, calls, branches, loops      the statements, one kind each
+    operands, assignments, elements, parts, giving, lending, callees, calls, branches, loops      the statements, one kind each
     walk             the walk of one function
     imports, proof   the file
 """

@@ -1,17 +1,17 @@
 """A call: what it takes is lent, it is called, it says what it says, its result lands, what was lent comes back."""
 from . import Refused
 from .context import Held, LentArray, LentPart
-from .lending import array_back, join_tokens, lend, split_tokens, take_back
+from .lending import array_back, gone, join_tokens, lend, split_tokens, take_back
 from .mir import Type
 from .spelling import argument, bracketed, nest, nest_type, path, product, sub
-from .terms import items, place
+from .terms import copies, items, place, uses
 
 
 class Call:
-    """`rewrites` says whether the result must be known as a value: code computes with it, tests it or reads a field of it."""
+    """`behind` is what follows it."""
 
-    def __init__(self, walk, statement, rewrites):
-        self.walk, self.context, self.rows, self.rewrites = walk, walk.context, walk.rows, rewrites
+    def __init__(self, walk, statement, behind):
+        self.walk, self.context, self.rows, self.behind = walk, walk.context, walk.rows, behind
         self.callee = walk.callee(statement[1][1][1])
         walk.counts.calls += 1
         self.c = sub("", walk.counts.calls)
@@ -21,6 +21,7 @@ class Call:
         self.tokens = {}  # for each of the callee's lifetimes
         self.names = {}  # for each reference, the ghost name under which it is lent
         self.loans, self.arrays, self.shown = [], [], {}
+        self.given = {}  # parameters that are given for good
         self.exits = {}  # what each `&mut` parameter held last
 
     def written(self):
@@ -36,6 +37,8 @@ class Call:
         self.context.step("drop ! $")
         self.context.names.pop(0)
         join_tokens(self.context, joins)
+        for p, lent in self.given.items():
+            gone(self, p, lent)
         for loan in self.loans:
             take_back(self, loan)
         for p, t, k, nu in self.arrays:
@@ -109,10 +112,16 @@ class Call:
         else:
             c.step(f"use0 W (raw ({g.triple} .pre {self.to})) {proof} $")
         c.becomes(len(front), "pre")
+        self.stand()
         operands = "(no-more !)"
         for x in reversed(self.operands):
             operands = f"(and-then ! {self.walk.read(x)[0]} {operands})"
         c.binder(f"calls-at ! (fmOf 𝓤 H (W .laws) 𝓣) {g.triple} known{g.k} {self.to} {operands} (λ w{self.c}.")
+
+    def stand(self):
+        """In a long walk the context is written anew before the call. It isn't in the form for it while a local's memory is lent, or a list open."""
+        if self.context.count >= 10 and not (self.context.taken or self.walk.turned or self.walk.opened):
+            self.context.stands()
 
     # ---- what it says
 
@@ -203,8 +212,8 @@ class Call:
         row, held = self.rows.row(t), Held(t, den=r, val=w, is_=is_)
         c.binder(f"peeks ! {row} (Is {row}) (shows 𝓤 H A {row}) {r} ({w} ∷ []) (λ {is_}.")
         c.step(f"land ! (from ! (stop !)) {c.put(self.dest, self.walk.typed(held), held)} $")
-        if self.rewrites and t.kind in ("int", "bool", "struct"):
-            self.walk.known_as_value(self.dest)
+        if t.kind in ("int", "bool", "struct") and any(uses(self.behind, k) for k in copies(self.behind, self.dest)):
+            self.walk.known_as_value(self.dest)  # code computes with it, tests it or reads a field of it
         c.step("drop ! $")
         c.names.pop(0)
 
@@ -219,5 +228,3 @@ class Call:
         let = walk.description.after(walk.counts.calls)
         if let:
             walk.let(let)
-        if self.context.count >= 10 and not walk.turned and not walk.opened:
-            self.context.stands()

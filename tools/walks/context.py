@@ -14,6 +14,7 @@ class Lent:
     cur: str
     room: str = None  # that a slice's length fits a usize
     same: str = None
+    given_away: bool = False  # whether it is passed on for good
     share: str = None  # of a list that a loop opened
     record: "Held" = None  # of a record that is opened, what it holds
 

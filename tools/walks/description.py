@@ -78,7 +78,7 @@ class Description:
     def default(self, name):
         """The element that `getD` takes of a list."""
         default = self.table.get("default", "[]")
-        return default if isinstance(default, str) else default[name]
+        return default if isinstance(default, str) else said(default, name, f"the element that `getD` takes (default.{name})", f"an element of {name}")
 
 
 def said(table, key, what, asked):

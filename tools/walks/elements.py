@@ -3,7 +3,7 @@ opened for each access outside a loop."""
 from . import Refused
 from .context import Held
 from .spelling import argument, bracketed, sub
-from .terms import assigned, flat, place
+from .terms import flat, place
 
 
 # ---- a record: its borrow is opened at the start, and stays so until the end

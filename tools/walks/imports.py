@@ -52,7 +52,7 @@ KIT = {
     "denote.Array": "Array array-vals array-tells array-makes array-lawful array-copy",
     "denote.Ref": "RefT MutRef ShrRef ptr-vals mut-tells shr-tells shr-copy",
     "denote.Lend": "Held",
-    "denote.Slice": "sliceVal MutSlice ShrSlice Room heres at-slice codedHoleys slice-vals mut-slice-tells shr-slice-tells shr-slice-copy",
+    "denote.Slice": "finally sliceVal MutSlice ShrSlice Room heres at-slice codedHoleys slice-vals mut-slice-tells shr-slice-tells shr-slice-copy",
     "denote.Index": "place-is place-byte row=k-row " + bang("elem-out elem-back elem-put looks-slice shuts-slice opens-slice closes-slice"),
     "denote.Steps": "only " + bang("owned peeks heard nothing opens closes"),
     "denote.Struct.Steps": bang("spelt"),
@@ -62,7 +62,7 @@ KIT = {
     "denote.Triple.Call": bang("calls-at"),
     "denote.Triple.Clauses": "ensured lasts",
     "denote.Triple.Table": "entered cited",
-    "denote.Triple.Walked": "needs Stays stay-none stay-none-slice stay-slice stay-ref stay-none-ref walkOf goes-none goes-none-slice goes-slice goes-ref goes-none-ref Walks ends-at walked walk-meets " + bang("says"),
+    "denote.Triple.Walked": "needs Stays stay-none stay-none-slice stay-slice gave-slice stay-ref stay-none-ref walkOf goes-none goes-none-slice goes-slice goes-gave-slice goes-ref goes-none-ref Walks ends-at walked walk-meets " + bang("says"),
     "denote.Exit": "yes",
     "denote.Signature": "plain",
 }
@@ -70,7 +70,7 @@ KIT = {
 # laws on walks, by module of leaf_entries
 LAWS = {
     "Locals": "tyAt",
-    "Freed": "all-freed, stands, cells",
+    "Freed": "all-freed, stands, sinks, cells",
     "Order": "lt-or-ge",
     "Again": "LentAgain, lends-again-at, comes-back-at",
     "Shared": "LentShared, shares-again-at, shared-back-at",

@@ -2,9 +2,10 @@
 from dataclasses import dataclass
 
 from . import Refused, parts
-from .context import Held, Lent, LentArray, LentPart
+from .context import Held, LentArray, LentPart
+from .giving import mentions
 from .mir import Type
-from .spelling import argument, bracketed, listed, sub
+from .spelling import argument, bracketed, sub
 
 
 @dataclass
@@ -39,6 +40,8 @@ def lend(call, p, t, lent):
         return pass_on(call, p, lent, part)
     if part and t.mut:
         return lend_part(call, p, t, lent, part)
+    if t.mut and lent.given_away and not mentions(call.behind, call.walk.local_of(lent)):
+        return give(call, p, lent)
     if lent.name in call.shown:
         token, name = call.shown[lent.name]
         return token, show_again(call, p, lent, part, token, name)
@@ -72,6 +75,20 @@ def pass_on(call, p, lent, part):
         return token, name
     parts.take(walk, p, part, token.name, token.life, token.share, name, f"(named {lent.type.life_index})", f"δ-{p}{call.c}", "refl")
     return token, f"δ-{p}{call.c}"
+
+
+# ---- a `&mut` is given for good
+
+def give(call, p, lent):
+    call.context.names[call.context.at(lent.name)] = f"lent-{p}"
+    call.given[p] = lent
+    return Token(lent.life, lent.share_of_life, lent.token), f"γ-{lent.name}"
+
+
+def gone(call, p, lent):
+    """What is left of it says what it held last."""
+    call.context.names[call.context.at(f"fin-{p}")] = lent.name
+    lent.cur, lent.same = call.exits[p], as_long(f"len-{p}{call.c}", lent)
 
 
 # ---- a `&mut` is lent again, for a lifetime that ends with the call
@@ -202,7 +219,7 @@ def array_back(call, p, t, k, nu):
     c.becomes(len(names))
     # back to its place among the locals
     c.taken.remove(k)
-    c.step(f"move ! {listed(list(range(1, c.place(k) + 1)) + [0])} $")
+    c.step(f"sinks W {c.place(k)} $")
     c.holds[k] = Held(array, den=now, val=v, is_=is_)
 
 

@@ -1,6 +1,7 @@
 """A loop `while i < bound`: its invariant, a turn, and the turn that leaves it, each a lemma in front of the walk."""
 from . import Refused, elements
 from .context import Context, Held
+from .description import said
 from .mir import USIZE
 from .spelling import nest, pairs, path, sub
 from .terms import assigned, flat, operator, place, sequence
@@ -110,10 +111,7 @@ class Loop:
         return defs
 
     def list_term(self, lent):
-        lists = self.said.get("lists", {})
-        if lent.name not in lists:
-            raise Refused(f"the description says nothing of the list {lent.name} in the loop (loop.lists.{lent.name})")
-        return lists[lent.name]
+        return said(self.said.get("lists", {}), lent.name, f"loop.lists.{lent.name}", "what the list holds at index i")
 
     def invariant_defs(self):
         """What holds at an index, and that each turn comes nearer to the bound."""
@@ -133,7 +131,7 @@ class Loop:
         for lent in self.opened:
             p = lent.name
             proof = self.said.get("inside", "less" if self.bound == f"(length {p})" else "omega (arith, less, known, req)")
-            proof = proof if isinstance(proof, str) else proof[p]
+            proof = proof if isinstance(proof, str) else said(proof, p, f"loop.inside.{p}", f"i < length {p}")
             defs += [f"  inside-{p} : (i : ℕ){self.bind} → i < {self.bound} → {self.known} → i < length {p}", f"  inside-{p} i{self.arg} less known = {proof}", ""]
         return defs
 
@@ -308,7 +306,7 @@ class Loop:
 
     def lemma_lines(self, more, over):
         walk, bound = self.walk, self.bound
-        after = f"(atReturn 𝓤 H En Post)"
+        after = "(atReturn 𝓤 H En Post)"
         turned = f"afterTurn 𝓤 H (Below 𝓤 H A Nearer At u) (afterBlock 𝓤 H (afterSeq 𝓤 H (Wp 𝓤 H (𝓣 .C) (𝓣 .Λ) En {self.tail} {after}) {after}))"
         shares = f"({' '.join(self.shares())} : Share) " if self.shares() else ""
         at = ["let i = u .0 in"] + (["let S = u .1 .0 in"] if self.free else []) + [f"let known = {self.known_now()} in"]

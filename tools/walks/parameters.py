@@ -40,7 +40,8 @@ def parameter(walk, k, name, t):
 def slice_parameter(walk, k, p, t):
     rows, at, j, N = walk.rows, path(k), t.life_index, walk.fn.lifetimes
     row, behind = rows.row(t.elem), rows.behind(t)
-    held = Held(t, den=p, val=f"sv-{p}", lent=Lent(p, t, cur=p, room=f"room-{p}", same="refl"))
+    given_away = k + 1 in walk.given_away
+    held = Held(t, den=p, val=f"sv-{p}", lent=Lent(p, t, cur=p, room=f"room-{p}", same="refl", given_away=given_away))
     return Parameter(
         p, held,
         telescope=f"(b-{p} o-{p} : ℕ) (γ-{p} : GName) ({p} : {behind}) (room-{p} : Room {row} (length {p}))",
@@ -49,8 +50,8 @@ def slice_parameter(walk, k, p, t):
         row=rows.reference(t, sub("κ", j)),
         spelled="slice-vals",
         tells=f"{'mut' if t.mut else 'shr'}-slice-tells (named {j}) (κs{path(j)}) {row}",
-        stays=stays(t, "slice", rows.slot(t.elem)),
-        goes=goes(t, "slice", N, rows.slot(t.elem)),
+        stays=stays(t, "gave-slice" if given_away else "stay-slice", "slice", rows.slot(t.elem)),
+        goes=goes(t, "goes-gave-slice" if given_away else "goes-slice", "slice", N, rows.slot(t.elem)),
         defs=reference_defs(rows, p, t, "zs", f"sliceVal (b-{p}, o-{p}) (length {p})"))
 
 
@@ -65,8 +66,8 @@ def record_parameter(walk, k, p, t):
         row=rows.reference(t, sub("κ", j)),
         spelled="ptr-vals",
         tells=f"{'mut' if t.mut else 'shr'}-tells (named {j}) (κs{path(j)}) {rows.row(t.elem)}",
-        stays=stays(t, "ref", rows.slot(t.elem)),
-        goes=goes(t, "ref", N, rows.slot(t.elem)),
+        stays=stays(t, "stay-ref", "ref", rows.slot(t.elem)),
+        goes=goes(t, "goes-ref", "ref", N, rows.slot(t.elem)),
         defs=reference_defs(rows, p, t, "z", f"vptr b-{p} o-{p}"))
 
 
@@ -87,14 +88,14 @@ def plain_parameter(walk, k, p, t):
         goes=f"goes-none 𝓤 H A W {walk.fn.lifetimes} (λ _. {row}) yes (λ κs x f. refl)")
 
 
-def stays(t, kind, slot):
+def stays(t, law, kind, slot):
     j = t.life_index
-    return f"stay-{kind} ({j} ∷ []) tt {slot}" if t.mut else f"stay-none-{kind} ({j} ∷ []) tt {slot} yes"
+    return f"{law} ({j} ∷ []) tt {slot}" if t.mut else f"stay-none-{kind} ({j} ∷ []) tt {slot} yes"
 
 
-def goes(t, kind, lifetimes, slot):
+def goes(t, law, kind, lifetimes, slot):
     j = t.life_index
-    return f"goes-{kind} 𝓤 H A W {lifetimes} {j} tt {slot}" if t.mut else f"goes-none-{kind} 𝓤 H A W {lifetimes} ({j} ∷ []) tt {slot} yes"
+    return f"{law} 𝓤 H A W {lifetimes} {j} tt {slot}" if t.mut else f"goes-none-{kind} 𝓤 H A W {lifetimes} ({j} ∷ []) tt {slot} yes"
 
 
 def reference_defs(rows, p, t, z, value):
@@ -117,8 +118,9 @@ def exit_items(walk):
             names += [f"obs-{p}", f"bor-{p}"]
             terms += [f"‵ (fobs γ-{p} ({row} .coded .code {p}-exit))", f"‵ (fbor {lent.life} (Body (SemTy-of {row}) b-{p} o-{p} γ-{p}))"]
         else:
+            own = f"finally {walk.rows.row(lent.type.elem)} γ-{p}" if lent.given_away else f"Own-{p}"
             names.append(p)
-            terms.append(f"‵ (Own-{p} {p + '-exit' if lent.type.mut else p})")
+            terms.append(f"‵ ({own} {p + '-exit' if lent.type.mut else p})")
     return names, terms
 
 

@@ -6,13 +6,14 @@ from .branches import branch
 from .callees import Callee
 from .calls import Call
 from .context import Context, Held
+from .giving import given_away
 from .imports import Imports
 from .loops import Loop
 from .parts import Parts
 from .rows import Rows
 from .source import replaced
 from .spelling import bracketed, listed, nest, product, sub
-from .terms import copies, flat, place, uses
+from .terms import flat, place
 
 # names that a walk uses itself: a parameter of such a name gets a prime
 RESERVED = {"mem", "run", "C", "M", "A", "H", "W", "i"}
@@ -42,6 +43,7 @@ class Walk:
         self.later = []  # what follows the arm that is walked
         self.unshut = []  # lists that are to be shut behind it
         self.needs_env, self.ends = False, description.ends
+        self.given_away = given_away(self.fn, self.parts)
         self.begin_parameters()
 
     # ---- names
@@ -64,6 +66,10 @@ class Walk:
     def local_type(self, k):
         """Spelt otherwise, the check of a walk with several structs runs into its step limit."""
         return f"(tyAt piece.locals {k})"
+
+    def local_of(self, lent):
+        """The local of a parameter that is lent."""
+        return 1 + [p.name for p in self.params].index(lent.name)
 
     def cell(self, k, value):
         """A local's memory, holding a value of the machine."""
@@ -178,7 +184,7 @@ class Walk:
                 assignments.assign(self, st, last=(test is not None or last) and is_last)
             elif st[0] == "call":
                 behind = rest + self.later
-                Call(self, st, any(uses(behind, k) for k in copies(behind, place(st[3])[0]))).written()
+                Call(self, st, behind).written()
             elif st[0] == "if" and test:
                 if self.loop_test(st, test):
                     return

@@ -41,7 +41,7 @@ use Rattle.leaf_passed.specs.Behind.{lesserOf, unusedFrom, unusedOver, marked}
 use Rattle.leaf_passed.proofs.Behind.{the-pass-over-all, those-are-the-used-ones}
 use denote.Struct.Laws as LL
 use Rattle.leaf_entries.proofs.Locals.{tyAt}
-use Rattle.leaf_entries.proofs.Freed.{all-freed, stands, cells}
+use Rattle.leaf_entries.proofs.Freed.{all-freed, stands, sinks, cells}
 use Rattle.leaf_entries.proofs.Order.{lt-or-ge}
 use Rattle.leaf_entries.proofs.Again.{LentAgain, lends-again-at, comes-back-at}
 use Rattle.leaf_entries.proofs.Shared.{LentShared, shares-again-at, shared-back-at}

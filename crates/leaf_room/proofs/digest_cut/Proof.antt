@@ -19,17 +19,16 @@ use prog.Wp.{Heap, Env, WpFn, Tables}
 use ghost.Atoms.{Atoms, sem}
 use contract.Monad.{Fun, fact}
 use contract.Running.{givenOf, tables, tablesOf}
-use types.Kit.{Given, atRet, ‵, raw, some as k-some, later, _⊛_, ⋆, _$_, _∵_, !, qed, use0, use1, use2, use3, by as k-by, move as k-move, keep as k-keep, drop as k-drop, split as k-split, join as k-join, pick as k-pick, rewrite as k-rewrite, fsplit as k-fsplit, fjoin as k-fjoin, suffices as k-suffices, frame as k-frame, await as k-await, done as k-done, group as k-group, feqL as k-feqL}
+use types.Kit.{Given, atRet, ‵, raw, some as k-some, later, _⊛_, ⋆, _$_, _∵_, !, qed, use0, use1, by as k-by, move as k-move, keep as k-keep, drop as k-drop, split as k-split, join as k-join, pick as k-pick, rewrite as k-rewrite, fsplit as k-fsplit, fjoin as k-fjoin, suffices as k-suffices, frame as k-frame, await as k-await, done as k-done, group as k-group, feqL as k-feqL}
 use types.Run.{look as k-look, init as k-init, stop as k-stop, hop as k-hop, fld as k-fld, from as k-from, load as k-load, lit as k-lit, addr as k-addr, of-opd as k-of-opd, bin as k-bin, and-then as k-and-then, no-more as k-no-more, assigns as k-assigns, assigns-last as k-assigns-last, land as k-land, first as k-first, exec as k-exec, returns as k-returns, branches as k-branches, enter as k-enter, alloc1 as k-alloc1, alloc0 as k-alloc0, params1 as k-params1, pass1 as k-pass1, pass0 as k-pass0}
 use types.Part.{agg as k-agg, whole as k-whole, sub as k-sub, look-in as k-look-in}
-use types.Tokens.{lft-new as k-lft-new, lft-end as k-lft-end}
 use sound.WpLaws.{fmOf, WpFn-mono}
 use denote.RattleType.{owns}
 use denote.Laws.{Is, shows}
 use denote.Plain.{uint-makes, uint-tells, uint-lawful}
 use denote.Builtin.{u8, usize}
 use denote.Ref.{RefT}
-use denote.Slice.{sliceVal, MutSlice, ShrSlice, Room, slice-vals, mut-slice-tells, shr-slice-tells, shr-slice-copy}
+use denote.Slice.{finally, sliceVal, MutSlice, ShrSlice, Room, slice-vals, mut-slice-tells, shr-slice-tells, shr-slice-copy}
 use denote.Steps.{only, owned as k-owned, peeks as k-peeks, heard as k-heard, nothing as k-nothing}
 use denote.Triple.Entry.{onEntry}
 use denote.Triple.Spec.{Meets, tripleOf}
@@ -37,14 +36,14 @@ use denote.Triple.Statement.{Contract, Triple}
 use denote.Triple.Call.{calls-at as k-calls-at}
 use denote.Triple.Clauses.{ensured, lasts}
 use denote.Triple.Table.{entered, cited}
-use denote.Triple.Walked.{Stays, stay-none, stay-none-slice, stay-slice, walkOf, goes-none, goes-none-slice, goes-slice, Walks, ends-at, walked, walk-meets, says as k-says}
+use denote.Triple.Walked.{Stays, stay-none, stay-none-slice, gave-slice, walkOf, goes-none, goes-none-slice, goes-gave-slice, Walks, ends-at, walked, walk-meets, says as k-says}
 use denote.Exit.{yes}
 use denote.Signature.{plain}
 use Rattle.leaf_split.specs.Digests.{DigestSays}
 use Rattle.leaf_within.specs.Within.{roomNeeded}
 use denote.Struct.Laws as LL
 use Rattle.leaf_entries.proofs.Locals.{tyAt}
-use Rattle.leaf_entries.proofs.Freed.{all-freed, stands, cells}
+use Rattle.leaf_entries.proofs.Freed.{all-freed, stands, sinks, cells}
 use Rattle.leaf_entries.proofs.Order.{lt-or-ge}
 use Rattle.leaf_entries.proofs.Again.{LentAgain, lends-again-at, comes-back-at}
 use Rattle.leaf_entries.proofs.Shared.{LentShared, shares-again-at, shared-back-at}
@@ -85,7 +84,7 @@ abbrev mach-Entry : Entry → Val
 mach-Entry z = only (LL.vals Entry-type.the-type Entry-laws.the-laws z)
 
 abbrev stayed : Stays (own.ended .signature .params) (own.ended .kept)
-stayed = (stay-none (λ _. Work-type.the-row) yes, (stay-slice (0 ∷ []) tt (plain (λ _. Entry-type.the-row)), (stay-slice (1 ∷ []) tt (plain (λ _. u8)), (stay-none-slice (2 ∷ []) tt (plain (λ _. u8)) yes, (stay-slice (3 ∷ []) tt (plain (λ _. u8)), (stay-slice (4 ∷ []) tt (plain (λ _. u8)), tt))))))
+stayed = (stay-none (λ _. Work-type.the-row) yes, (gave-slice (0 ∷ []) tt (plain (λ _. Entry-type.the-row)), (gave-slice (1 ∷ []) tt (plain (λ _. u8)), (stay-none-slice (2 ∷ []) tt (plain (λ _. u8)) yes, (gave-slice (3 ∷ []) tt (plain (λ _. u8)), (gave-slice (4 ∷ []) tt (plain (λ _. u8)), tt))))))
 
 module _ {M : Type 1} (𝓤 : URA M) (H : Heap 𝓤) (A : Atoms 𝓤) (mem : Memory → SProp 𝓤) (run : Routine → Fun 𝓤) where
   abbrev Callee₁ : Contract 𝓤
@@ -199,9 +198,9 @@ module _ {M : Type 1} (𝓤 : URA M) (H : Heap 𝓤) (A : Atoms 𝓤) (W : Given
   abbrev Post : Val → SProp 𝓤
   Post = walkOf 𝓤 H A own.ended stayed (own.clauses 𝓤 H A at-mem run) .post (((κ₀, (κ₁, (κ₂, (κ₃, (κ₄, tt))))), (q₀, (q₁, (q₂, (q₃, (q₄, tt))))), tt, the-args, the-vals), tt)
 
-  the-exit : (r : DigestStep) (w : Val) → Is DigestStep-type.the-row r (w ∷ []) → (list-exit : List Entry) → length list-exit ≡ length list → (store-exit : List ℕ) → length store-exit ≡ length store → (area-exit : List ℕ) → length area-exit ≡ length area → (tickets-exit : List ℕ) → length tickets-exit ≡ length tickets → (DigestSays work (list) (store) (page) (area) (tickets) (r .reply) (r .work) (list-exit) (store-exit) (area-exit) (tickets-exit)) → ent 𝓤 (⋆ 𝓤 H A (‵ (flft κ₀ q₀) ∷ ‵ (flft κ₁ q₁) ∷ ‵ (flft κ₂ q₂) ∷ ‵ (flft κ₃ q₃) ∷ ‵ (flft κ₄ q₄) ∷ ‵ (Own-list list-exit) ∷ ‵ (Own-store store-exit) ∷ ‵ (Own-page page) ∷ ‵ (Own-area area-exit) ∷ ‵ (Own-tickets tickets-exit) ∷ [])) (Post w)
+  the-exit : (r : DigestStep) (w : Val) → Is DigestStep-type.the-row r (w ∷ []) → (list-exit : List Entry) → length list-exit ≡ length list → (store-exit : List ℕ) → length store-exit ≡ length store → (area-exit : List ℕ) → length area-exit ≡ length area → (tickets-exit : List ℕ) → length tickets-exit ≡ length tickets → (DigestSays work (list) (store) (page) (area) (tickets) (r .reply) (r .work) (list-exit) (store-exit) (area-exit) (tickets-exit)) → ent 𝓤 (⋆ 𝓤 H A (‵ (flft κ₀ q₀) ∷ ‵ (flft κ₁ q₁) ∷ ‵ (flft κ₂ q₂) ∷ ‵ (flft κ₃ q₃) ∷ ‵ (flft κ₄ q₄) ∷ ‵ (finally Entry-type.the-row γ-list list-exit) ∷ ‵ (finally u8 γ-store store-exit) ∷ ‵ (Own-page page) ∷ ‵ (finally u8 γ-area area-exit) ∷ ‵ (finally u8 γ-tickets tickets-exit) ∷ [])) (Post w)
   the-exit r w is list-exit len-list store-exit len-store area-exit len-area tickets-exit len-tickets fact-of =
-      qed W (‵ (flft κ₀ q₀) ∷ ‵ (flft κ₁ q₁) ∷ ‵ (flft κ₂ q₂) ∷ ‵ (flft κ₃ q₃) ∷ ‵ (flft κ₄ q₄) ∷ ‵ (Own-list list-exit) ∷ ‵ (Own-store store-exit) ∷ ‵ (Own-page page) ∷ ‵ (Own-area area-exit) ∷ ‵ (Own-tickets tickets-exit) ∷ []) ∵ k-suffices ! _ (ends-at 𝓤 H A own.ended stayed (own.clauses 𝓤 H A at-mem run) W (((κ₀, (κ₁, (κ₂, (κ₃, (κ₄, tt))))), (q₀, (q₁, (q₂, (q₃, (q₄, tt))))), tt, the-args, the-vals), tt) w r (tt, (list-exit, (store-exit, (tt, (area-exit, (tickets-exit, tt)))))) (tt, (len-list, (len-store, (tt, (len-area, (len-tickets, tt))))))) $ k-says ! fact-of $ k-nothing ! $ k-move ! (5 ∷ 0 ∷ []) $ k-join ! $ k-move ! (4 ∷ 0 ∷ []) $ k-join ! $ k-move ! (3 ∷ 0 ∷ []) $ k-join ! $ k-move ! (2 ∷ 0 ∷ []) $ k-join ! $ k-move ! (1 ∷ 0 ∷ []) $ k-join ! $ k-frame ! $ k-nothing ! $ k-move ! (5 ∷ 0 ∷ []) $ k-fjoin ! $ k-move ! (4 ∷ 0 ∷ []) $ k-fjoin ! $ k-move ! (3 ∷ 0 ∷ []) $ k-fjoin ! $ k-move ! (2 ∷ 0 ∷ []) $ k-fjoin ! $ k-move ! (1 ∷ 0 ∷ []) $ k-fjoin ! $ k-owned ! Work-type.the-row (Is Work-type.the-row) (LL.makes Work-type.the-type Work-laws.the-plain 𝓤 H A) work _ is-work $ k-fjoin ! $ k-owned ! DigestStep-type.the-row (Is DigestStep-type.the-row) (LL.makes DigestStep-type.the-type DigestStep-laws.the-plain 𝓤 H A) r _ is $ k-move ! (1 ∷ 0 ∷ []) $ k-done !
+      qed W (‵ (flft κ₀ q₀) ∷ ‵ (flft κ₁ q₁) ∷ ‵ (flft κ₂ q₂) ∷ ‵ (flft κ₃ q₃) ∷ ‵ (flft κ₄ q₄) ∷ ‵ (finally Entry-type.the-row γ-list list-exit) ∷ ‵ (finally u8 γ-store store-exit) ∷ ‵ (Own-page page) ∷ ‵ (finally u8 γ-area area-exit) ∷ ‵ (finally u8 γ-tickets tickets-exit) ∷ []) ∵ k-suffices ! _ (ends-at 𝓤 H A own.ended stayed (own.clauses 𝓤 H A at-mem run) W (((κ₀, (κ₁, (κ₂, (κ₃, (κ₄, tt))))), (q₀, (q₁, (q₂, (q₃, (q₄, tt))))), tt, the-args, the-vals), tt) w r (tt, (list-exit, (store-exit, (tt, (area-exit, (tickets-exit, tt)))))) (tt, (len-list, (len-store, (tt, (len-area, (len-tickets, tt))))))) $ k-says ! fact-of $ k-nothing ! $ k-move ! (5 ∷ 0 ∷ []) $ k-join ! $ k-move ! (4 ∷ 0 ∷ []) $ k-join ! $ k-move ! (3 ∷ 0 ∷ []) $ k-join ! $ k-move ! (2 ∷ 0 ∷ []) $ k-join ! $ k-move ! (1 ∷ 0 ∷ []) $ k-join ! $ k-frame ! $ k-nothing ! $ k-move ! (5 ∷ 0 ∷ []) $ k-fjoin ! $ k-move ! (4 ∷ 0 ∷ []) $ k-fjoin ! $ k-move ! (3 ∷ 0 ∷ []) $ k-fjoin ! $ k-move ! (2 ∷ 0 ∷ []) $ k-fjoin ! $ k-move ! (1 ∷ 0 ∷ []) $ k-fjoin ! $ k-owned ! Work-type.the-row (Is Work-type.the-row) (LL.makes Work-type.the-type Work-laws.the-plain 𝓤 H A) work _ is-work $ k-fjoin ! $ k-owned ! DigestStep-type.the-row (Is DigestStep-type.the-row) (LL.makes DigestStep-type.the-type DigestStep-laws.the-plain 𝓤 H A) r _ is $ k-move ! (1 ∷ 0 ∷ []) $ k-done !
 
   module _ (𝓣 : Tables 𝓤 H) (known₁ : Triple 𝓤 (𝓣 .C #leaf-within·room-needed) (Callee₁ 𝓤 H A at-mem run)) (known₂ : Triple 𝓤 (𝓣 .C #leaf-split·digest-small) (Callee₂ 𝓤 H A at-mem run)) (known₃ : Triple 𝓤 (𝓣 .C #leaf-room·digest-long) (Callee₃ 𝓤 H A at-mem run)) where
     abbrev En : (l₀ l₁ l₂ l₃ l₄ l₅ l₆ l₇ l₈ l₉ l₁₀ l₁₁ l₁₂ l₁₃ l₁₄ l₁₅ l₁₆ l₁₇ l₁₈ l₁₉ l₂₀ l₂₁ l₂₂ l₂₃ l₂₄ l₂₅ l₂₆ l₂₇ l₂₈ : ℕ) → Env 𝓤 H
@@ -229,6 +228,7 @@ module _ {M : Type 1} (𝓤 : URA M) (H : Heap 𝓤) (A : Atoms 𝓤) (W : Given
         k-drop ! $
         k-assigns ! (k-of-opd ! (k-load ! (k-from ! (k-fld ! refl (k-stop !))) (k-look-in ! 62 (k-sub ! 1 refl (k-whole !))))) (k-from ! (k-stop !)) (k-init ! 46 refl (tt, record { fits = room-list .0 })) $
         use0 W (raw ((Callee₁ 𝓤 H A at-mem run) .pre (to₁ 𝓤 H A W at-mem run work (mach-Work work) (length list) (vint w64 (length list))))) (asks₁ 𝓤 H A W at-mem run work (mach-Work work) (length list) (vint w64 (length list)) is-work (refl, room-list .0)) $
+        stands W (_ ∷ _ ∷ _ ∷ _ ∷ _ ∷ _ ∷ _ ∷ _ ∷ _ ∷ _ ∷ _ ∷ []) (none ∷ has _ ∷ has _ ∷ has _ ∷ has _ ∷ has _ ∷ has _ ∷ none ∷ none ∷ none ∷ has _ ∷ []) $
         k-calls-at ! (fmOf 𝓤 H (W .laws) 𝓣) (Callee₁ 𝓤 H A at-mem run) known₁ (to₁ 𝓤 H A W at-mem run work (mach-Work work) (length list) (vint w64 (length list))) (k-and-then ! (k-load ! (k-from ! (k-stop !)) (k-look ! 65 refl)) (k-and-then ! (k-load ! (k-from ! (k-stop !)) (k-look ! 47 refl)) (k-no-more !))) (λ w₁.
         use1 W (later (k-some (λ (r₁ : ℕ). (‵ ftrue ⊛ ‵ (usize .own r₁ (w₁ ∷ []))) ⊛ raw (ensured 𝓤 H A callee₁.ended (callee₁.clauses 𝓤 H A at-mem run) tt (args₁ 𝓤 H A W at-mem run work (mach-Work work) (length list) (vint w64 (length list))) tt r₁)))) (id⊢ 𝓤 _) $ k-await ! tt $ k-pick ! (λ r₁.
         k-split ! $ k-move ! (1 ∷ []) $
@@ -240,7 +240,6 @@ module _ {M : Type 1} (𝓤 : URA M) (H : Heap 𝓤) (A : Atoms 𝓤) (W : Given
         k-rewrite ! 54 (λ (u : Val). ‵ (fat fullShare (tyAt piece.locals 7) l₇ 0 u)) (ap only ((uint-tells w64) r₁ _ is₁)) refl $
         k-drop ! $
         k-drop ! $
-        stands W (_ ∷ _ ∷ _ ∷ _ ∷ _ ∷ _ ∷ _ ∷ _ ∷ _ ∷ _ ∷ []) (none ∷ has _ ∷ has _ ∷ has _ ∷ has _ ∷ has _ ∷ has _ ∷ has _ ∷ none ∷ none ∷ has _ ∷ []) $
         k-assigns ! (k-bin ! (k-load ! (k-from ! (k-stop !)) (k-look ! 52 refl)) (k-lit ! tt) tt) (k-from ! (k-stop !)) (k-init ! 44 refl (tt, tt)) $
         k-first ! $ k-branches ! (k-load ! (k-from ! (k-stop !)) (k-look ! 44 refl))
         (λ yes.
@@ -253,26 +252,15 @@ module _ {M : Type 1} (𝓤 : URA M) (H : Heap 𝓤) (A : Atoms 𝓤) (W : Given
         k-assigns ! (k-agg ! (k-and-then ! (k-load ! (k-from ! (k-stop !)) (k-look ! 32 refl)) (k-and-then ! (k-load ! (k-from ! (k-fld ! refl (k-stop !))) (k-look-in ! 56 (k-sub ! 1 refl (k-whole !)))) (k-no-more !)))) (k-from ! (k-stop !)) (k-init ! 30 refl (tt, (tt, (record { fits = room-area .0 }, tt)))) $
         k-assigns ! (k-addr ! (k-from ! (k-fld ! refl (k-hop ! (k-look-in ! 54 (k-sub ! 0 refl (k-whole !))) (k-stop !))))) (k-from ! (k-stop !)) (k-init ! 28 refl (tt, tt)) $
         k-assigns ! (k-agg ! (k-and-then ! (k-load ! (k-from ! (k-stop !)) (k-look ! 28 refl)) (k-and-then ! (k-load ! (k-from ! (k-fld ! refl (k-stop !))) (k-look-in ! 54 (k-sub ! 1 refl (k-whole !)))) (k-no-more !)))) (k-from ! (k-stop !)) (k-init ! 26 refl (tt, (tt, (record { fits = room-tickets .0 }, tt)))) $
-        k-lft-new ! tt (λ ν-list₂.
-        k-move ! (5 ∷ 10 ∷ []) $
-        use2 W (later (k-some (λ (δ : GName). ‵ (MutSlice (named 0) (ν-list₂ ∷ []) Entry-type.the-row .own (record { ptr = (b-list, o-list); name = δ; now = list }) (sv-list ∷ [])) ⊛ ‵ (LentAgain Entry-type.the-row κ₀ (ν-list₂ ∷ []) q₀ γ-list b-list o-list δ list)))) (lends-again-at Entry-type.the-row κ₀ (ν-list₂ ∷ []) q₀ γ-list b-list o-list 𝓤 H A W (named 0) (named 0) list (length list) refl) $ k-await ! tt $ k-pick ! (λ δ-list₂. k-split ! $
-        k-lft-new ! tt (λ ν-store₂.
-        k-move ! (7 ∷ 11 ∷ []) $
-        use2 W (later (k-some (λ (δ : GName). ‵ (MutSlice (named 0) (ν-store₂ ∷ []) u8 .own (record { ptr = (b-store, o-store); name = δ; now = store }) (sv-store ∷ [])) ⊛ ‵ (LentAgain u8 κ₁ (ν-store₂ ∷ []) q₁ γ-store b-store o-store δ store)))) (lends-again-at u8 κ₁ (ν-store₂ ∷ []) q₁ γ-store b-store o-store 𝓤 H A W (named 1) (named 0) store (length store) refl) $ k-await ! tt $ k-pick ! (λ δ-store₂. k-split ! $
-        k-move ! (8 ∷ []) $
+        k-move ! (2 ∷ []) $
         use1 W (‵ (Own-page page) ⊛ ‵ (Own-page page)) (shr-slice-copy 𝓤 H A W (named 2) κ₂ u8 .twice (ref-page page) (sv-page ∷ [])) $ k-split ! $
-        k-lft-new ! tt (λ ν-area₂.
-        k-move ! (10 ∷ 12 ∷ []) $
-        use2 W (later (k-some (λ (δ : GName). ‵ (MutSlice (named 0) (ν-area₂ ∷ []) u8 .own (record { ptr = (b-area, o-area); name = δ; now = area }) (sv-area ∷ [])) ⊛ ‵ (LentAgain u8 κ₃ (ν-area₂ ∷ []) q₃ γ-area b-area o-area δ area)))) (lends-again-at u8 κ₃ (ν-area₂ ∷ []) q₃ γ-area b-area o-area 𝓤 H A W (named 3) (named 0) area (length area) refl) $ k-await ! tt $ k-pick ! (λ δ-area₂. k-split ! $
-        k-lft-new ! tt (λ ν-tickets₂.
-        k-move ! (12 ∷ 13 ∷ []) $
-        use2 W (later (k-some (λ (δ : GName). ‵ (MutSlice (named 0) (ν-tickets₂ ∷ []) u8 .own (record { ptr = (b-tickets, o-tickets); name = δ; now = tickets }) (sv-tickets ∷ [])) ⊛ ‵ (LentAgain u8 κ₄ (ν-tickets₂ ∷ []) q₄ γ-tickets b-tickets o-tickets δ tickets)))) (lends-again-at u8 κ₄ (ν-tickets₂ ∷ []) q₄ γ-tickets b-tickets o-tickets 𝓤 H A W (named 4) (named 0) tickets (length tickets) refl) $ k-await ! tt $ k-pick ! (λ δ-tickets₂. k-split ! $
-        k-move ! (13 ∷ 10 ∷ 14 ∷ 5 ∷ 2 ∷ 11 ∷ 8 ∷ 6 ∷ 3 ∷ 0 ∷ []) $
-        k-group ! 10 $ use1 W (raw ((Callee₂ 𝓤 H A at-mem run) .pre (to₂ 𝓤 H A W at-mem run (ν-list₂ ∷ []) fullShare (ν-store₂ ∷ []) fullShare κ₂ q₂ (ν-area₂ ∷ []) fullShare (ν-tickets₂ ∷ []) fullShare work (mach-Work work) b-list o-list δ-list₂ list (length list) b-store o-store δ-store₂ store (length store) b-page o-page γ-page page (length page) b-area o-area δ-area₂ area (length area) b-tickets o-tickets δ-tickets₂ tickets (length tickets)))) (asks₂ 𝓤 H A W at-mem run (ν-list₂ ∷ []) fullShare (ν-store₂ ∷ []) fullShare κ₂ q₂ (ν-area₂ ∷ []) fullShare (ν-tickets₂ ∷ []) fullShare work (mach-Work work) b-list o-list δ-list₂ list (length list) b-store o-store δ-store₂ store (length store) b-page o-page γ-page page (length page) b-area o-area δ-area₂ area (length area) b-tickets o-tickets δ-tickets₂ tickets (length tickets) is-work (subst (λ (k : ℕ). k ≤ 128) (f₁ .0) (omega (arith, test)))) $
-        k-calls-at ! (fmOf 𝓤 H (W .laws) 𝓣) (Callee₂ 𝓤 H A at-mem run) known₂ (to₂ 𝓤 H A W at-mem run (ν-list₂ ∷ []) fullShare (ν-store₂ ∷ []) fullShare κ₂ q₂ (ν-area₂ ∷ []) fullShare (ν-tickets₂ ∷ []) fullShare work (mach-Work work) b-list o-list δ-list₂ list (length list) b-store o-store δ-store₂ store (length store) b-page o-page γ-page page (length page) b-area o-area δ-area₂ area (length area) b-tickets o-tickets δ-tickets₂ tickets (length tickets)) (k-and-then ! (k-load ! (k-from ! (k-stop !)) (k-look ! 60 refl)) (k-and-then ! (k-load ! (k-from ! (k-stop !)) (k-look ! 34 refl)) (k-and-then ! (k-load ! (k-from ! (k-stop !)) (k-look ! 30 refl)) (k-and-then ! (k-load ! (k-from ! (k-stop !)) (k-look ! 54 refl)) (k-and-then ! (k-load ! (k-from ! (k-stop !)) (k-look ! 26 refl)) (k-and-then ! (k-load ! (k-from ! (k-stop !)) (k-look ! 22 refl)) (k-no-more !))))))) (λ w₂.
-        use1 W (later (k-some (λ (r₂ : DigestStep). ((‵ (flft (ν-list₂ ∷ []) fullShare) ⊛ ‵ (flft (ν-store₂ ∷ []) fullShare) ⊛ ‵ (flft κ₂ q₂) ⊛ ‵ (flft (ν-area₂ ∷ []) fullShare) ⊛ ‵ (flft (ν-tickets₂ ∷ []) fullShare) ⊛ ‵ ftrue) ⊛ ‵ (DigestStep-type.the-row .own r₂ (w₂ ∷ []))) ⊛ raw (ensured 𝓤 H A callee₂.ended (callee₂.clauses 𝓤 H A at-mem run) (ν-list₂ ∷ [], (ν-store₂ ∷ [], (κ₂, (ν-area₂ ∷ [], (ν-tickets₂ ∷ [], tt))))) (args₂ 𝓤 H A W at-mem run (ν-list₂ ∷ []) fullShare (ν-store₂ ∷ []) fullShare κ₂ q₂ (ν-area₂ ∷ []) fullShare (ν-tickets₂ ∷ []) fullShare work (mach-Work work) b-list o-list δ-list₂ list (length list) b-store o-store δ-store₂ store (length store) b-page o-page γ-page page (length page) b-area o-area δ-area₂ area (length area) b-tickets o-tickets δ-tickets₂ tickets (length tickets)) tt r₂)))) (id⊢ 𝓤 _) $ k-await ! tt $ k-pick ! (λ r₂.
+        k-move ! (10 ∷ 9 ∷ 8 ∷ 7 ∷ 6 ∷ 5 ∷ 4 ∷ 0 ∷ 3 ∷ 2 ∷ []) $
+        k-group ! 10 $ use1 W (raw ((Callee₂ 𝓤 H A at-mem run) .pre (to₂ 𝓤 H A W at-mem run κ₀ q₀ κ₁ q₁ κ₂ q₂ κ₃ q₃ κ₄ q₄ work (mach-Work work) b-list o-list γ-list list (length list) b-store o-store γ-store store (length store) b-page o-page γ-page page (length page) b-area o-area γ-area area (length area) b-tickets o-tickets γ-tickets tickets (length tickets)))) (asks₂ 𝓤 H A W at-mem run κ₀ q₀ κ₁ q₁ κ₂ q₂ κ₃ q₃ κ₄ q₄ work (mach-Work work) b-list o-list γ-list list (length list) b-store o-store γ-store store (length store) b-page o-page γ-page page (length page) b-area o-area γ-area area (length area) b-tickets o-tickets γ-tickets tickets (length tickets) is-work (subst (λ (k : ℕ). k ≤ 128) (f₁ .0) (omega (arith, test)))) $
+        stands W (_ ∷ _ ∷ []) (none ∷ has _ ∷ has _ ∷ has _ ∷ has _ ∷ has _ ∷ has _ ∷ has _ ∷ none ∷ none ∷ has _ ∷ has _ ∷ none ∷ has _ ∷ has _ ∷ has _ ∷ has _ ∷ has _ ∷ has _ ∷ has _ ∷ has _ ∷ []) $
+        k-calls-at ! (fmOf 𝓤 H (W .laws) 𝓣) (Callee₂ 𝓤 H A at-mem run) known₂ (to₂ 𝓤 H A W at-mem run κ₀ q₀ κ₁ q₁ κ₂ q₂ κ₃ q₃ κ₄ q₄ work (mach-Work work) b-list o-list γ-list list (length list) b-store o-store γ-store store (length store) b-page o-page γ-page page (length page) b-area o-area γ-area area (length area) b-tickets o-tickets γ-tickets tickets (length tickets)) (k-and-then ! (k-load ! (k-from ! (k-stop !)) (k-look ! 56 refl)) (k-and-then ! (k-load ! (k-from ! (k-stop !)) (k-look ! 30 refl)) (k-and-then ! (k-load ! (k-from ! (k-stop !)) (k-look ! 26 refl)) (k-and-then ! (k-load ! (k-from ! (k-stop !)) (k-look ! 50 refl)) (k-and-then ! (k-load ! (k-from ! (k-stop !)) (k-look ! 22 refl)) (k-and-then ! (k-load ! (k-from ! (k-stop !)) (k-look ! 18 refl)) (k-no-more !))))))) (λ w₂.
+        use1 W (later (k-some (λ (r₂ : DigestStep). ((‵ (flft κ₀ q₀) ⊛ ‵ (flft κ₁ q₁) ⊛ ‵ (flft κ₂ q₂) ⊛ ‵ (flft κ₃ q₃) ⊛ ‵ (flft κ₄ q₄) ⊛ ‵ ftrue) ⊛ ‵ (DigestStep-type.the-row .own r₂ (w₂ ∷ []))) ⊛ raw (ensured 𝓤 H A callee₂.ended (callee₂.clauses 𝓤 H A at-mem run) (κ₀, (κ₁, (κ₂, (κ₃, (κ₄, tt))))) (args₂ 𝓤 H A W at-mem run κ₀ q₀ κ₁ q₁ κ₂ q₂ κ₃ q₃ κ₄ q₄ work (mach-Work work) b-list o-list γ-list list (length list) b-store o-store γ-store store (length store) b-page o-page γ-page page (length page) b-area o-area γ-area area (length area) b-tickets o-tickets γ-tickets tickets (length tickets)) tt r₂)))) (id⊢ 𝓤 _) $ k-await ! tt $ k-pick ! (λ r₂.
         k-split ! $ k-move ! (1 ∷ []) $
-        use1 W (k-some (λ (us : Unit {0} × (List Entry × (List ℕ × (Unit {0} × (List ℕ × (List ℕ × Unit {0})))))). ‵ (lasts callee₂.ended (ν-list₂ ∷ [], (ν-store₂ ∷ [], (κ₂, (ν-area₂ ∷ [], (ν-tickets₂ ∷ [], tt))))) (args₂ 𝓤 H A W at-mem run (ν-list₂ ∷ []) fullShare (ν-store₂ ∷ []) fullShare κ₂ q₂ (ν-area₂ ∷ []) fullShare (ν-tickets₂ ∷ []) fullShare work (mach-Work work) b-list o-list δ-list₂ list (length list) b-store o-store δ-store₂ store (length store) b-page o-page γ-page page (length page) b-area o-area δ-area₂ area (length area) b-tickets o-tickets δ-tickets₂ tickets (length tickets)) us) ⊛ raw (fact 𝓤 (Said₂ 𝓤 H A W at-mem run work list store page area tickets r₂ (us .1 .0) (us .1 .1 .0) (us .1 .1 .1 .1 .0) (us .1 .1 .1 .1 .1 .0))))) (id⊢ 𝓤 _) $ k-pick ! (λ zs₂. k-split ! $ k-move ! (1 ∷ []) $
+        use1 W (k-some (λ (us : Unit {0} × (List Entry × (List ℕ × (Unit {0} × (List ℕ × (List ℕ × Unit {0})))))). ‵ (lasts callee₂.ended (κ₀, (κ₁, (κ₂, (κ₃, (κ₄, tt))))) (args₂ 𝓤 H A W at-mem run κ₀ q₀ κ₁ q₁ κ₂ q₂ κ₃ q₃ κ₄ q₄ work (mach-Work work) b-list o-list γ-list list (length list) b-store o-store γ-store store (length store) b-page o-page γ-page page (length page) b-area o-area γ-area area (length area) b-tickets o-tickets γ-tickets tickets (length tickets)) us) ⊛ raw (fact 𝓤 (Said₂ 𝓤 H A W at-mem run work list store page area tickets r₂ (us .1 .0) (us .1 .1 .0) (us .1 .1 .1 .1 .0) (us .1 .1 .1 .1 .1 .0))))) (id⊢ 𝓤 _) $ k-pick ! (λ zs₂. k-split ! $ k-move ! (1 ∷ []) $
         k-heard ! (Said₂ 𝓤 H A W at-mem run work list store page area tickets r₂ (zs₂ .1 .0) (zs₂ .1 .1 .0) (zs₂ .1 .1 .1 .1 .0) (zs₂ .1 .1 .1 .1 .1 .0)) (λ f₂.
         let list-exit₂ = zs₂ .1 .0 in let store-exit₂ = zs₂ .1 .1 .0 in let area-exit₂ = zs₂ .1 .1 .1 .1 .0 in let tickets-exit₂ = zs₂ .1 .1 .1 .1 .1 .0 in
         k-fsplit ! $ k-drop ! $
@@ -285,7 +273,7 @@ module _ {M : Type 1} (𝓤 : URA M) (H : Heap 𝓤) (A : Atoms 𝓤) (W : Given
         k-move ! (4 ∷ []) $
         k-split ! $ k-move ! (1 ∷ []) $
         k-peeks ! DigestStep-type.the-row (Is DigestStep-type.the-row) (shows 𝓤 H A DigestStep-type.the-row) r₂ (w₂ ∷ []) (λ is₂.
-        k-land ! (k-from ! (k-stop !)) (k-init ! 51 refl (LL.lawful DigestStep-type.the-type DigestStep-laws.the-laws 𝓤 H A W .typed r₂ _ is₂ .0)) $
+        k-land ! (k-from ! (k-stop !)) (k-init ! 47 refl (LL.lawful DigestStep-type.the-type DigestStep-laws.the-laws 𝓤 H A W .typed r₂ _ is₂ .0)) $
         k-drop ! $
         k-split ! $ k-move ! (1 ∷ []) $
         k-split ! $ k-move ! (1 ∷ []) $
@@ -293,29 +281,12 @@ module _ {M : Type 1} (𝓤 : URA M) (H : Heap 𝓤) (A : Atoms 𝓤) (W : Given
         k-split ! $ k-move ! (1 ∷ []) $
         k-split ! $ k-move ! (1 ∷ []) $
         k-drop ! $
-        k-move ! (4 ∷ []) $
-        k-lft-end ! tt $
-        k-move ! (0 ∷ 13 ∷ 8 ∷ []) $
-        use3 W (later (‵ (Own-list (zs₂ .1 .0)) ⊛ ‵ (flft κ₀ q₀))) (comes-back-at Entry-type.the-row κ₀ (ν-list₂ ∷ []) q₀ γ-list b-list o-list 𝓤 H A W (named 0) (named 0) list (length list) refl δ-list₂ (zs₂ .1 .0) room-list len-list₂) $ k-await ! tt $ k-split ! $
-        k-move ! (5 ∷ []) $
-        k-lft-end ! tt $
-        k-move ! (0 ∷ 12 ∷ 8 ∷ []) $
-        use3 W (later (‵ (Own-store (zs₂ .1 .1 .0)) ⊛ ‵ (flft κ₁ q₁))) (comes-back-at u8 κ₁ (ν-store₂ ∷ []) q₁ γ-store b-store o-store 𝓤 H A W (named 1) (named 0) store (length store) refl δ-store₂ (zs₂ .1 .1 .0) room-store len-store₂) $ k-await ! tt $ k-split ! $
-        k-move ! (5 ∷ []) $
-        k-lft-end ! tt $
-        k-move ! (0 ∷ 10 ∷ 8 ∷ []) $
-        use3 W (later (‵ (Own-area (zs₂ .1 .1 .1 .1 .0)) ⊛ ‵ (flft κ₃ q₃))) (comes-back-at u8 κ₃ (ν-area₂ ∷ []) q₃ γ-area b-area o-area 𝓤 H A W (named 3) (named 0) area (length area) refl δ-area₂ (zs₂ .1 .1 .1 .1 .0) room-area len-area₂) $ k-await ! tt $ k-split ! $
-        k-move ! (6 ∷ []) $
-        k-lft-end ! tt $
-        k-move ! (0 ∷ 9 ∷ 8 ∷ []) $
-        use3 W (later (‵ (Own-tickets (zs₂ .1 .1 .1 .1 .1 .0)) ⊛ ‵ (flft κ₄ q₄))) (comes-back-at u8 κ₄ (ν-tickets₂ ∷ []) q₄ γ-tickets b-tickets o-tickets 𝓤 H A W (named 4) (named 0) tickets (length tickets) refl δ-tickets₂ (zs₂ .1 .1 .1 .1 .1 .0) room-tickets len-tickets₂) $ k-await ! tt $ k-split ! $
-        stands W (_ ∷ _ ∷ _ ∷ _ ∷ _ ∷ _ ∷ _ ∷ _ ∷ _ ∷ _ ∷ []) (none ∷ has _ ∷ has _ ∷ has _ ∷ has _ ∷ has _ ∷ has _ ∷ has _ ∷ has _ ∷ none ∷ has _ ∷ has _ ∷ none ∷ has _ ∷ has _ ∷ has _ ∷ has _ ∷ has _ ∷ has _ ∷ has _ ∷ has _ ∷ []) $
         k-assigns-last ! (k-of-opd ! (k-load ! (k-from ! (k-stop !)) (k-look ! 50 refl))) (k-from ! (k-stop !)) (k-init ! 42 refl (LL.lawful DigestStep-type.the-type DigestStep-laws.the-laws 𝓤 H A W .typed r₂ _ is₂ .0)) $
         k-exec ! (𝓣 .C) (𝓣 .Λ) (En l₀ l₁ l₂ l₃ l₄ l₅ l₆ l₇ l₈ l₉ l₁₀ l₁₁ l₁₂ l₁₃ l₁₄ l₁₅ l₁₆ l₁₇ l₁₈ l₁₉ l₂₀ l₂₁ l₂₂ l₂₃ l₂₄ l₂₅ l₂₆ l₂₇ l₂₈) piece.t-5 (atRet (En l₀ l₁ l₂ l₃ l₄ l₅ l₆ l₇ l₈ l₉ l₁₀ l₁₁ l₁₂ l₁₃ l₁₄ l₁₅ l₁₆ l₁₇ l₁₈ l₁₉ l₂₀ l₂₁ l₂₂ l₂₃ l₂₄ l₂₅ l₂₆ l₂₇ l₂₈) Post) $
         k-assigns ! (k-of-opd ! (k-load ! (k-from ! (k-stop !)) (k-look ! 42 refl))) (k-from ! (k-stop !)) (k-init ! 66 refl (LL.lawful DigestStep-type.the-type DigestStep-laws.the-laws 𝓤 H A W .typed r₂ _ is₂ .0)) $
         k-returns ! (k-look ! 66 refl) $ all-freed W (_ ∷ _ ∷ _ ∷ _ ∷ _ ∷ _ ∷ _ ∷ _ ∷ _ ∷ _ ∷ []) (has _ ∷ has _ ∷ has _ ∷ has _ ∷ has _ ∷ has _ ∷ has _ ∷ has _ ∷ has _ ∷ none ∷ has _ ∷ has _ ∷ has _ ∷ has _ ∷ has _ ∷ has _ ∷ has _ ∷ has _ ∷ has _ ∷ has _ ∷ has _ ∷ []) $
-        k-keep ! (7 ∷ 5 ∷ 8 ∷ 3 ∷ 1 ∷ 6 ∷ 4 ∷ 9 ∷ 2 ∷ 0 ∷ []) $
-        k-by ! (the-exit r₂ w₂ is₂ ((zs₂ .1 .0)) len-list₂ ((zs₂ .1 .1 .0)) len-store₂ ((zs₂ .1 .1 .1 .1 .0)) len-area₂ ((zs₂ .1 .1 .1 .1 .1 .0)) len-tickets₂ (f₂))))))))))))))))))))
+        k-keep ! (4 ∷ 3 ∷ 2 ∷ 1 ∷ 0 ∷ 8 ∷ 7 ∷ 9 ∷ 6 ∷ 5 ∷ []) $
+        k-by ! (the-exit r₂ w₂ is₂ ((zs₂ .1 .0)) len-list₂ ((zs₂ .1 .1 .0)) len-store₂ ((zs₂ .1 .1 .1 .1 .0)) len-area₂ ((zs₂ .1 .1 .1 .1 .1 .0)) len-tickets₂ (f₂))))))))))))
         (λ no.
         let test : 129 ≤ r₁ = nltb→le r₁ 129 no in
         k-assigns ! (k-addr ! (k-from ! (k-fld ! refl (k-hop ! (k-look-in ! 62 (k-sub ! 0 refl (k-whole !))) (k-stop !))))) (k-from ! (k-stop !)) (k-init ! 24 refl (tt, tt)) $
@@ -326,26 +297,15 @@ module _ {M : Type 1} (𝓤 : URA M) (H : Heap 𝓤) (A : Atoms 𝓤) (W : Given
         k-assigns ! (k-agg ! (k-and-then ! (k-load ! (k-from ! (k-stop !)) (k-look ! 16 refl)) (k-and-then ! (k-load ! (k-from ! (k-fld ! refl (k-stop !))) (k-look-in ! 56 (k-sub ! 1 refl (k-whole !)))) (k-no-more !)))) (k-from ! (k-stop !)) (k-init ! 14 refl (tt, (tt, (record { fits = room-area .0 }, tt)))) $
         k-assigns ! (k-addr ! (k-from ! (k-fld ! refl (k-hop ! (k-look-in ! 54 (k-sub ! 0 refl (k-whole !))) (k-stop !))))) (k-from ! (k-stop !)) (k-init ! 12 refl (tt, tt)) $
         k-assigns ! (k-agg ! (k-and-then ! (k-load ! (k-from ! (k-stop !)) (k-look ! 12 refl)) (k-and-then ! (k-load ! (k-from ! (k-fld ! refl (k-stop !))) (k-look-in ! 54 (k-sub ! 1 refl (k-whole !)))) (k-no-more !)))) (k-from ! (k-stop !)) (k-init ! 10 refl (tt, (tt, (record { fits = room-tickets .0 }, tt)))) $
-        k-lft-new ! tt (λ ν-list₂.
-        k-move ! (5 ∷ 10 ∷ []) $
-        use2 W (later (k-some (λ (δ : GName). ‵ (MutSlice (named 0) (ν-list₂ ∷ []) Entry-type.the-row .own (record { ptr = (b-list, o-list); name = δ; now = list }) (sv-list ∷ [])) ⊛ ‵ (LentAgain Entry-type.the-row κ₀ (ν-list₂ ∷ []) q₀ γ-list b-list o-list δ list)))) (lends-again-at Entry-type.the-row κ₀ (ν-list₂ ∷ []) q₀ γ-list b-list o-list 𝓤 H A W (named 0) (named 0) list (length list) refl) $ k-await ! tt $ k-pick ! (λ δ-list₂. k-split ! $
-        k-lft-new ! tt (λ ν-store₂.
-        k-move ! (7 ∷ 11 ∷ []) $
-        use2 W (later (k-some (λ (δ : GName). ‵ (MutSlice (named 0) (ν-store₂ ∷ []) u8 .own (record { ptr = (b-store, o-store); name = δ; now = store }) (sv-store ∷ [])) ⊛ ‵ (LentAgain u8 κ₁ (ν-store₂ ∷ []) q₁ γ-store b-store o-store δ store)))) (lends-again-at u8 κ₁ (ν-store₂ ∷ []) q₁ γ-store b-store o-store 𝓤 H A W (named 1) (named 0) store (length store) refl) $ k-await ! tt $ k-pick ! (λ δ-store₂. k-split ! $
-        k-move ! (8 ∷ []) $
+        k-move ! (2 ∷ []) $
         use1 W (‵ (Own-page page) ⊛ ‵ (Own-page page)) (shr-slice-copy 𝓤 H A W (named 2) κ₂ u8 .twice (ref-page page) (sv-page ∷ [])) $ k-split ! $
-        k-lft-new ! tt (λ ν-area₂.
-        k-move ! (10 ∷ 12 ∷ []) $
-        use2 W (later (k-some (λ (δ : GName). ‵ (MutSlice (named 0) (ν-area₂ ∷ []) u8 .own (record { ptr = (b-area, o-area); name = δ; now = area }) (sv-area ∷ [])) ⊛ ‵ (LentAgain u8 κ₃ (ν-area₂ ∷ []) q₃ γ-area b-area o-area δ area)))) (lends-again-at u8 κ₃ (ν-area₂ ∷ []) q₃ γ-area b-area o-area 𝓤 H A W (named 3) (named 0) area (length area) refl) $ k-await ! tt $ k-pick ! (λ δ-area₂. k-split ! $
-        k-lft-new ! tt (λ ν-tickets₂.
-        k-move ! (12 ∷ 13 ∷ []) $
-        use2 W (later (k-some (λ (δ : GName). ‵ (MutSlice (named 0) (ν-tickets₂ ∷ []) u8 .own (record { ptr = (b-tickets, o-tickets); name = δ; now = tickets }) (sv-tickets ∷ [])) ⊛ ‵ (LentAgain u8 κ₄ (ν-tickets₂ ∷ []) q₄ γ-tickets b-tickets o-tickets δ tickets)))) (lends-again-at u8 κ₄ (ν-tickets₂ ∷ []) q₄ γ-tickets b-tickets o-tickets 𝓤 H A W (named 4) (named 0) tickets (length tickets) refl) $ k-await ! tt $ k-pick ! (λ δ-tickets₂. k-split ! $
-        k-move ! (13 ∷ 10 ∷ 14 ∷ 5 ∷ 2 ∷ 11 ∷ 8 ∷ 6 ∷ 3 ∷ 0 ∷ []) $
-        k-group ! 10 $ use1 W (raw ((Callee₃ 𝓤 H A at-mem run) .pre (to₃ 𝓤 H A W at-mem run (ν-list₂ ∷ []) fullShare (ν-store₂ ∷ []) fullShare κ₂ q₂ (ν-area₂ ∷ []) fullShare (ν-tickets₂ ∷ []) fullShare work (mach-Work work) b-list o-list δ-list₂ list (length list) b-store o-store δ-store₂ store (length store) b-page o-page γ-page page (length page) b-area o-area δ-area₂ area (length area) b-tickets o-tickets δ-tickets₂ tickets (length tickets)))) (asks₃ 𝓤 H A W at-mem run (ν-list₂ ∷ []) fullShare (ν-store₂ ∷ []) fullShare κ₂ q₂ (ν-area₂ ∷ []) fullShare (ν-tickets₂ ∷ []) fullShare work (mach-Work work) b-list o-list δ-list₂ list (length list) b-store o-store δ-store₂ store (length store) b-page o-page γ-page page (length page) b-area o-area δ-area₂ area (length area) b-tickets o-tickets δ-tickets₂ tickets (length tickets) is-work) $
-        k-calls-at ! (fmOf 𝓤 H (W .laws) 𝓣) (Callee₃ 𝓤 H A at-mem run) known₃ (to₃ 𝓤 H A W at-mem run (ν-list₂ ∷ []) fullShare (ν-store₂ ∷ []) fullShare κ₂ q₂ (ν-area₂ ∷ []) fullShare (ν-tickets₂ ∷ []) fullShare work (mach-Work work) b-list o-list δ-list₂ list (length list) b-store o-store δ-store₂ store (length store) b-page o-page γ-page page (length page) b-area o-area δ-area₂ area (length area) b-tickets o-tickets δ-tickets₂ tickets (length tickets)) (k-and-then ! (k-load ! (k-from ! (k-stop !)) (k-look ! 60 refl)) (k-and-then ! (k-load ! (k-from ! (k-stop !)) (k-look ! 18 refl)) (k-and-then ! (k-load ! (k-from ! (k-stop !)) (k-look ! 14 refl)) (k-and-then ! (k-load ! (k-from ! (k-stop !)) (k-look ! 54 refl)) (k-and-then ! (k-load ! (k-from ! (k-stop !)) (k-look ! 10 refl)) (k-and-then ! (k-load ! (k-from ! (k-stop !)) (k-look ! 6 refl)) (k-no-more !))))))) (λ w₂.
-        use1 W (later (k-some (λ (r₂ : DigestStep). ((‵ (flft (ν-list₂ ∷ []) fullShare) ⊛ ‵ (flft (ν-store₂ ∷ []) fullShare) ⊛ ‵ (flft κ₂ q₂) ⊛ ‵ (flft (ν-area₂ ∷ []) fullShare) ⊛ ‵ (flft (ν-tickets₂ ∷ []) fullShare) ⊛ ‵ ftrue) ⊛ ‵ (DigestStep-type.the-row .own r₂ (w₂ ∷ []))) ⊛ raw (ensured 𝓤 H A callee₃.ended (callee₃.clauses 𝓤 H A at-mem run) (ν-list₂ ∷ [], (ν-store₂ ∷ [], (κ₂, (ν-area₂ ∷ [], (ν-tickets₂ ∷ [], tt))))) (args₃ 𝓤 H A W at-mem run (ν-list₂ ∷ []) fullShare (ν-store₂ ∷ []) fullShare κ₂ q₂ (ν-area₂ ∷ []) fullShare (ν-tickets₂ ∷ []) fullShare work (mach-Work work) b-list o-list δ-list₂ list (length list) b-store o-store δ-store₂ store (length store) b-page o-page γ-page page (length page) b-area o-area δ-area₂ area (length area) b-tickets o-tickets δ-tickets₂ tickets (length tickets)) tt r₂)))) (id⊢ 𝓤 _) $ k-await ! tt $ k-pick ! (λ r₂.
+        k-move ! (10 ∷ 9 ∷ 8 ∷ 7 ∷ 6 ∷ 5 ∷ 4 ∷ 0 ∷ 3 ∷ 2 ∷ []) $
+        k-group ! 10 $ use1 W (raw ((Callee₃ 𝓤 H A at-mem run) .pre (to₃ 𝓤 H A W at-mem run κ₀ q₀ κ₁ q₁ κ₂ q₂ κ₃ q₃ κ₄ q₄ work (mach-Work work) b-list o-list γ-list list (length list) b-store o-store γ-store store (length store) b-page o-page γ-page page (length page) b-area o-area γ-area area (length area) b-tickets o-tickets γ-tickets tickets (length tickets)))) (asks₃ 𝓤 H A W at-mem run κ₀ q₀ κ₁ q₁ κ₂ q₂ κ₃ q₃ κ₄ q₄ work (mach-Work work) b-list o-list γ-list list (length list) b-store o-store γ-store store (length store) b-page o-page γ-page page (length page) b-area o-area γ-area area (length area) b-tickets o-tickets γ-tickets tickets (length tickets) is-work) $
+        stands W (_ ∷ _ ∷ []) (none ∷ has _ ∷ has _ ∷ has _ ∷ has _ ∷ has _ ∷ has _ ∷ has _ ∷ none ∷ none ∷ has _ ∷ has _ ∷ none ∷ none ∷ none ∷ none ∷ none ∷ none ∷ none ∷ none ∷ none ∷ has _ ∷ has _ ∷ has _ ∷ has _ ∷ has _ ∷ has _ ∷ has _ ∷ has _ ∷ []) $
+        k-calls-at ! (fmOf 𝓤 H (W .laws) 𝓣) (Callee₃ 𝓤 H A at-mem run) known₃ (to₃ 𝓤 H A W at-mem run κ₀ q₀ κ₁ q₁ κ₂ q₂ κ₃ q₃ κ₄ q₄ work (mach-Work work) b-list o-list γ-list list (length list) b-store o-store γ-store store (length store) b-page o-page γ-page page (length page) b-area o-area γ-area area (length area) b-tickets o-tickets γ-tickets tickets (length tickets)) (k-and-then ! (k-load ! (k-from ! (k-stop !)) (k-look ! 56 refl)) (k-and-then ! (k-load ! (k-from ! (k-stop !)) (k-look ! 14 refl)) (k-and-then ! (k-load ! (k-from ! (k-stop !)) (k-look ! 10 refl)) (k-and-then ! (k-load ! (k-from ! (k-stop !)) (k-look ! 50 refl)) (k-and-then ! (k-load ! (k-from ! (k-stop !)) (k-look ! 6 refl)) (k-and-then ! (k-load ! (k-from ! (k-stop !)) (k-look ! 2 refl)) (k-no-more !))))))) (λ w₂.
+        use1 W (later (k-some (λ (r₂ : DigestStep). ((‵ (flft κ₀ q₀) ⊛ ‵ (flft κ₁ q₁) ⊛ ‵ (flft κ₂ q₂) ⊛ ‵ (flft κ₃ q₃) ⊛ ‵ (flft κ₄ q₄) ⊛ ‵ ftrue) ⊛ ‵ (DigestStep-type.the-row .own r₂ (w₂ ∷ []))) ⊛ raw (ensured 𝓤 H A callee₃.ended (callee₃.clauses 𝓤 H A at-mem run) (κ₀, (κ₁, (κ₂, (κ₃, (κ₄, tt))))) (args₃ 𝓤 H A W at-mem run κ₀ q₀ κ₁ q₁ κ₂ q₂ κ₃ q₃ κ₄ q₄ work (mach-Work work) b-list o-list γ-list list (length list) b-store o-store γ-store store (length store) b-page o-page γ-page page (length page) b-area o-area γ-area area (length area) b-tickets o-tickets γ-tickets tickets (length tickets)) tt r₂)))) (id⊢ 𝓤 _) $ k-await ! tt $ k-pick ! (λ r₂.
         k-split ! $ k-move ! (1 ∷ []) $
-        use1 W (k-some (λ (us : Unit {0} × (List Entry × (List ℕ × (Unit {0} × (List ℕ × (List ℕ × Unit {0})))))). ‵ (lasts callee₃.ended (ν-list₂ ∷ [], (ν-store₂ ∷ [], (κ₂, (ν-area₂ ∷ [], (ν-tickets₂ ∷ [], tt))))) (args₃ 𝓤 H A W at-mem run (ν-list₂ ∷ []) fullShare (ν-store₂ ∷ []) fullShare κ₂ q₂ (ν-area₂ ∷ []) fullShare (ν-tickets₂ ∷ []) fullShare work (mach-Work work) b-list o-list δ-list₂ list (length list) b-store o-store δ-store₂ store (length store) b-page o-page γ-page page (length page) b-area o-area δ-area₂ area (length area) b-tickets o-tickets δ-tickets₂ tickets (length tickets)) us) ⊛ raw (fact 𝓤 (Said₃ 𝓤 H A W at-mem run work list store page area tickets r₂ (us .1 .0) (us .1 .1 .0) (us .1 .1 .1 .1 .0) (us .1 .1 .1 .1 .1 .0))))) (id⊢ 𝓤 _) $ k-pick ! (λ zs₂. k-split ! $ k-move ! (1 ∷ []) $
+        use1 W (k-some (λ (us : Unit {0} × (List Entry × (List ℕ × (Unit {0} × (List ℕ × (List ℕ × Unit {0})))))). ‵ (lasts callee₃.ended (κ₀, (κ₁, (κ₂, (κ₃, (κ₄, tt))))) (args₃ 𝓤 H A W at-mem run κ₀ q₀ κ₁ q₁ κ₂ q₂ κ₃ q₃ κ₄ q₄ work (mach-Work work) b-list o-list γ-list list (length list) b-store o-store γ-store store (length store) b-page o-page γ-page page (length page) b-area o-area γ-area area (length area) b-tickets o-tickets γ-tickets tickets (length tickets)) us) ⊛ raw (fact 𝓤 (Said₃ 𝓤 H A W at-mem run work list store page area tickets r₂ (us .1 .0) (us .1 .1 .0) (us .1 .1 .1 .1 .0) (us .1 .1 .1 .1 .1 .0))))) (id⊢ 𝓤 _) $ k-pick ! (λ zs₂. k-split ! $ k-move ! (1 ∷ []) $
         k-heard ! (Said₃ 𝓤 H A W at-mem run work list store page area tickets r₂ (zs₂ .1 .0) (zs₂ .1 .1 .0) (zs₂ .1 .1 .1 .1 .0) (zs₂ .1 .1 .1 .1 .1 .0)) (λ f₂.
         let list-exit₂ = zs₂ .1 .0 in let store-exit₂ = zs₂ .1 .1 .0 in let area-exit₂ = zs₂ .1 .1 .1 .1 .0 in let tickets-exit₂ = zs₂ .1 .1 .1 .1 .1 .0 in
         k-fsplit ! $ k-drop ! $
@@ -358,7 +318,7 @@ module _ {M : Type 1} (𝓤 : URA M) (H : Heap 𝓤) (A : Atoms 𝓤) (W : Given
         k-move ! (4 ∷ []) $
         k-split ! $ k-move ! (1 ∷ []) $
         k-peeks ! DigestStep-type.the-row (Is DigestStep-type.the-row) (shows 𝓤 H A DigestStep-type.the-row) r₂ (w₂ ∷ []) (λ is₂.
-        k-land ! (k-from ! (k-stop !)) (k-init ! 49 refl (LL.lawful DigestStep-type.the-type DigestStep-laws.the-laws 𝓤 H A W .typed r₂ _ is₂ .0)) $
+        k-land ! (k-from ! (k-stop !)) (k-init ! 45 refl (LL.lawful DigestStep-type.the-type DigestStep-laws.the-laws 𝓤 H A W .typed r₂ _ is₂ .0)) $
         k-drop ! $
         k-split ! $ k-move ! (1 ∷ []) $
         k-split ! $ k-move ! (1 ∷ []) $
@@ -366,29 +326,12 @@ module _ {M : Type 1} (𝓤 : URA M) (H : Heap 𝓤) (A : Atoms 𝓤) (W : Given
         k-split ! $ k-move ! (1 ∷ []) $
         k-split ! $ k-move ! (1 ∷ []) $
         k-drop ! $
-        k-move ! (4 ∷ []) $
-        k-lft-end ! tt $
-        k-move ! (0 ∷ 13 ∷ 8 ∷ []) $
-        use3 W (later (‵ (Own-list (zs₂ .1 .0)) ⊛ ‵ (flft κ₀ q₀))) (comes-back-at Entry-type.the-row κ₀ (ν-list₂ ∷ []) q₀ γ-list b-list o-list 𝓤 H A W (named 0) (named 0) list (length list) refl δ-list₂ (zs₂ .1 .0) room-list len-list₂) $ k-await ! tt $ k-split ! $
-        k-move ! (5 ∷ []) $
-        k-lft-end ! tt $
-        k-move ! (0 ∷ 12 ∷ 8 ∷ []) $
-        use3 W (later (‵ (Own-store (zs₂ .1 .1 .0)) ⊛ ‵ (flft κ₁ q₁))) (comes-back-at u8 κ₁ (ν-store₂ ∷ []) q₁ γ-store b-store o-store 𝓤 H A W (named 1) (named 0) store (length store) refl δ-store₂ (zs₂ .1 .1 .0) room-store len-store₂) $ k-await ! tt $ k-split ! $
-        k-move ! (5 ∷ []) $
-        k-lft-end ! tt $
-        k-move ! (0 ∷ 10 ∷ 8 ∷ []) $
-        use3 W (later (‵ (Own-area (zs₂ .1 .1 .1 .1 .0)) ⊛ ‵ (flft κ₃ q₃))) (comes-back-at u8 κ₃ (ν-area₂ ∷ []) q₃ γ-area b-area o-area 𝓤 H A W (named 3) (named 0) area (length area) refl δ-area₂ (zs₂ .1 .1 .1 .1 .0) room-area len-area₂) $ k-await ! tt $ k-split ! $
-        k-move ! (6 ∷ []) $
-        k-lft-end ! tt $
-        k-move ! (0 ∷ 9 ∷ 8 ∷ []) $
-        use3 W (later (‵ (Own-tickets (zs₂ .1 .1 .1 .1 .1 .0)) ⊛ ‵ (flft κ₄ q₄))) (comes-back-at u8 κ₄ (ν-tickets₂ ∷ []) q₄ γ-tickets b-tickets o-tickets 𝓤 H A W (named 4) (named 0) tickets (length tickets) refl δ-tickets₂ (zs₂ .1 .1 .1 .1 .1 .0) room-tickets len-tickets₂) $ k-await ! tt $ k-split ! $
-        stands W (_ ∷ _ ∷ _ ∷ _ ∷ _ ∷ _ ∷ _ ∷ _ ∷ _ ∷ _ ∷ []) (none ∷ has _ ∷ has _ ∷ has _ ∷ has _ ∷ has _ ∷ has _ ∷ has _ ∷ none ∷ has _ ∷ has _ ∷ has _ ∷ none ∷ none ∷ none ∷ none ∷ none ∷ none ∷ none ∷ none ∷ none ∷ has _ ∷ has _ ∷ has _ ∷ has _ ∷ has _ ∷ has _ ∷ has _ ∷ has _ ∷ []) $
         k-assigns-last ! (k-of-opd ! (k-load ! (k-from ! (k-stop !)) (k-look ! 48 refl))) (k-from ! (k-stop !)) (k-init ! 42 refl (LL.lawful DigestStep-type.the-type DigestStep-laws.the-laws 𝓤 H A W .typed r₂ _ is₂ .0)) $
         k-exec ! (𝓣 .C) (𝓣 .Λ) (En l₀ l₁ l₂ l₃ l₄ l₅ l₆ l₇ l₈ l₉ l₁₀ l₁₁ l₁₂ l₁₃ l₁₄ l₁₅ l₁₆ l₁₇ l₁₈ l₁₉ l₂₀ l₂₁ l₂₂ l₂₃ l₂₄ l₂₅ l₂₆ l₂₇ l₂₈) piece.t-5 (atRet (En l₀ l₁ l₂ l₃ l₄ l₅ l₆ l₇ l₈ l₉ l₁₀ l₁₁ l₁₂ l₁₃ l₁₄ l₁₅ l₁₆ l₁₇ l₁₈ l₁₉ l₂₀ l₂₁ l₂₂ l₂₃ l₂₄ l₂₅ l₂₆ l₂₇ l₂₈) Post) $
         k-assigns ! (k-of-opd ! (k-load ! (k-from ! (k-stop !)) (k-look ! 42 refl))) (k-from ! (k-stop !)) (k-init ! 66 refl (LL.lawful DigestStep-type.the-type DigestStep-laws.the-laws 𝓤 H A W .typed r₂ _ is₂ .0)) $
         k-returns ! (k-look ! 66 refl) $ all-freed W (_ ∷ _ ∷ _ ∷ _ ∷ _ ∷ _ ∷ _ ∷ _ ∷ _ ∷ _ ∷ []) (has _ ∷ has _ ∷ has _ ∷ has _ ∷ has _ ∷ has _ ∷ has _ ∷ has _ ∷ none ∷ has _ ∷ has _ ∷ has _ ∷ has _ ∷ none ∷ none ∷ none ∷ none ∷ none ∷ none ∷ none ∷ none ∷ has _ ∷ has _ ∷ has _ ∷ has _ ∷ has _ ∷ has _ ∷ has _ ∷ has _ ∷ []) $
-        k-keep ! (7 ∷ 5 ∷ 8 ∷ 3 ∷ 1 ∷ 6 ∷ 4 ∷ 9 ∷ 2 ∷ 0 ∷ []) $
-        k-by ! (the-exit r₂ w₂ is₂ ((zs₂ .1 .0)) len-list₂ ((zs₂ .1 .1 .0)) len-store₂ ((zs₂ .1 .1 .1 .1 .0)) len-area₂ ((zs₂ .1 .1 .1 .1 .1 .0)) len-tickets₂ (f₂)))))))))))))))))))))))))))))))))))))))))))))))))))))
+        k-keep ! (4 ∷ 3 ∷ 2 ∷ 1 ∷ 0 ∷ 8 ∷ 7 ∷ 9 ∷ 6 ∷ 5 ∷ []) $
+        k-by ! (the-exit r₂ w₂ is₂ ((zs₂ .1 .0)) len-list₂ ((zs₂ .1 .1 .0)) len-store₂ ((zs₂ .1 .1 .1 .1 .0)) len-area₂ ((zs₂ .1 .1 .1 .1 .1 .0)) len-tickets₂ (f₂)))))))))))))))))))))))))))))))))))))))))))))
 
 module _ {M : Type 1} (𝓤 : URA M) (H : Heap 𝓤) (A : Atoms 𝓤) (W : Given 𝓤 H A) (mem : Memory → SProp 𝓤) (run : Routine → Fun 𝓤) (𝓣 : Tables 𝓤 H) (known₁ : Triple 𝓤 (𝓣 .C #leaf-within·room-needed) (Callee₁ 𝓤 H A mem run)) (known₂ : Triple 𝓤 (𝓣 .C #leaf-split·digest-small) (Callee₂ 𝓤 H A mem run)) (known₃ : Triple 𝓤 (𝓣 .C #leaf-room·digest-long) (Callee₃ 𝓤 H A mem run)) where
   digest-cut-walks : Walks 𝓤 H A own.ended stayed (WpFn 𝓤 H (𝓣 .C) (𝓣 .Λ) code.function) (own.clauses 𝓤 H A mem run)
@@ -397,7 +340,7 @@ module _ {M : Type 1} (𝓤 : URA M) (H : Heap 𝓤) (A : Atoms 𝓤) (W : Given
       (λ κs qs bounds a g are. via 𝓤 _ (fst∗ 𝓤 _ (emp 𝓤)) (walk 𝓤 H A W mem run (κs .0) (κs .1 .0) (κs .1 .1 .0) (κs .1 .1 .1 .0) (κs .1 .1 .1 .1 .0) (qs .0) (qs .1 .0) (qs .1 .1 .0) (qs .1 .1 .1 .0) (qs .1 .1 .1 .1 .0) (a .0) (are .0) (a .1 .0 .ptr .0) (a .1 .0 .ptr .1) (a .1 .0 .name) (a .1 .0 .now) (are .1 .0 .0 .1) (a .1 .1 .0 .ptr .0) (a .1 .1 .0 .ptr .1) (a .1 .1 .0 .name) (a .1 .1 .0 .now) (are .1 .1 .0 .0 .1) (a .1 .1 .1 .0 .ptr .0) (a .1 .1 .1 .0 .ptr .1) (a .1 .1 .1 .0 .name) (a .1 .1 .1 .0 .now) (are .1 .1 .1 .0 .0 .1) (a .1 .1 .1 .1 .0 .ptr .0) (a .1 .1 .1 .1 .0 .ptr .1) (a .1 .1 .1 .1 .0 .name) (a .1 .1 .1 .1 .0 .now) (are .1 .1 .1 .1 .0 .0 .1) (a .1 .1 .1 .1 .1 .0 .ptr .0) (a .1 .1 .1 .1 .1 .0 .ptr .1) (a .1 .1 .1 .1 .1 .0 .name) (a .1 .1 .1 .1 .1 .0 .now) (are .1 .1 .1 .1 .1 .0 .0 .1) 𝓣 known₁ known₂ known₃))
 
   digest-cut-meets : Meets 𝓤 H A own.signature (WpFn 𝓤 H (𝓣 .C) (𝓣 .Λ) code.function) (own.spec 𝓤 H A mem run)
-  digest-cut-meets = walk-meets 𝓤 H A own.ended stayed W (goes-none 𝓤 H A W 5 (λ _. Work-type.the-row) yes (λ κs x f. refl), (goes-slice 𝓤 H A W 5 0 tt (plain (λ _. Entry-type.the-row)), (goes-slice 𝓤 H A W 5 1 tt (plain (λ _. u8)), (goes-none-slice 𝓤 H A W 5 (2 ∷ []) tt (plain (λ _. u8)) yes, (goes-slice 𝓤 H A W 5 3 tt (plain (λ _. u8)), (goes-slice 𝓤 H A W 5 4 tt (plain (λ _. u8)), tt)))))) (own.clauses 𝓤 H A mem run)
+  digest-cut-meets = walk-meets 𝓤 H A own.ended stayed W (goes-none 𝓤 H A W 5 (λ _. Work-type.the-row) yes (λ κs x f. refl), (goes-gave-slice 𝓤 H A W 5 0 tt (plain (λ _. Entry-type.the-row)), (goes-gave-slice 𝓤 H A W 5 1 tt (plain (λ _. u8)), (goes-none-slice 𝓤 H A W 5 (2 ∷ []) tt (plain (λ _. u8)) yes, (goes-gave-slice 𝓤 H A W 5 3 tt (plain (λ _. u8)), (goes-gave-slice 𝓤 H A W 5 4 tt (plain (λ _. u8)), tt)))))) (own.clauses 𝓤 H A mem run)
       (WpFn 𝓤 H (𝓣 .C) (𝓣 .Λ) code.function) (WpFn-mono 𝓤 H (W .laws) 𝓣 code.function) digest-cut-walks
 
 pub digest-cut-spec : {M : Type 1} → stated.statement M

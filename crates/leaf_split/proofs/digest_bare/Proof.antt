@@ -30,7 +30,7 @@ use denote.Builtin.{u8, usize}
 use denote.Array.{Array, array-makes, array-lawful}
 use denote.Ref.{RefT}
 use denote.Lend.{Held}
-use denote.Slice.{sliceVal, MutSlice, ShrSlice, Room, slice-vals, mut-slice-tells, shr-slice-tells, shr-slice-copy}
+use denote.Slice.{finally, sliceVal, MutSlice, ShrSlice, Room, slice-vals, mut-slice-tells, shr-slice-tells, shr-slice-copy}
 use denote.Steps.{only, owned as k-owned, peeks as k-peeks, heard as k-heard, nothing as k-nothing}
 use denote.Triple.Entry.{onEntry}
 use denote.Triple.Spec.{Meets, tripleOf}
@@ -38,14 +38,14 @@ use denote.Triple.Statement.{Contract, Triple}
 use denote.Triple.Call.{calls-at as k-calls-at}
 use denote.Triple.Clauses.{ensured, lasts}
 use denote.Triple.Table.{entered, cited}
-use denote.Triple.Walked.{needs, Stays, stay-none, stay-none-slice, stay-slice, walkOf, goes-none, goes-none-slice, goes-slice, Walks, ends-at, walked, walk-meets, says as k-says}
+use denote.Triple.Walked.{needs, Stays, stay-none, stay-none-slice, gave-slice, walkOf, goes-none, goes-none-slice, goes-gave-slice, Walks, ends-at, walked, walk-meets, says as k-says}
 use denote.Exit.{yes}
 use denote.Signature.{plain}
 use Rattle.leaf_within.specs.Within.{roomNeeded}
 use Rattle.leaf_split.specs.Digests.{DigestSays}
 use denote.Struct.Laws as LL
 use Rattle.leaf_entries.proofs.Locals.{tyAt}
-use Rattle.leaf_entries.proofs.Freed.{all-freed, stands, cells}
+use Rattle.leaf_entries.proofs.Freed.{all-freed, stands, sinks, cells}
 use Rattle.leaf_entries.proofs.Order.{lt-or-ge}
 use Rattle.leaf_entries.proofs.Again.{LentAgain, lends-again-at, comes-back-at}
 use Rattle.leaf_entries.proofs.Shared.{LentShared, shares-again-at, shared-back-at}
@@ -87,7 +87,7 @@ abbrev mach-Entry : Entry → Val
 mach-Entry z = only (LL.vals Entry-type.the-type Entry-laws.the-laws z)
 
 abbrev stayed : Stays (own.ended .signature .params) (own.ended .kept)
-stayed = (stay-none (λ _. Work-type.the-row) yes, (stay-slice (0 ∷ []) tt (plain (λ _. Entry-type.the-row)), (stay-slice (1 ∷ []) tt (plain (λ _. u8)), (stay-none-slice (2 ∷ []) tt (plain (λ _. u8)) yes, (stay-slice (3 ∷ []) tt (plain (λ _. u8)), (stay-slice (4 ∷ []) tt (plain (λ _. u8)), tt))))))
+stayed = (stay-none (λ _. Work-type.the-row) yes, (gave-slice (0 ∷ []) tt (plain (λ _. Entry-type.the-row)), (gave-slice (1 ∷ []) tt (plain (λ _. u8)), (stay-none-slice (2 ∷ []) tt (plain (λ _. u8)) yes, (gave-slice (3 ∷ []) tt (plain (λ _. u8)), (gave-slice (4 ∷ []) tt (plain (λ _. u8)), tt))))))
 
 module _ {M : Type 1} (𝓤 : URA M) (H : Heap 𝓤) (A : Atoms 𝓤) (mem : Memory → SProp 𝓤) (run : Routine → Fun 𝓤) where
   abbrev Callee₁ : Contract 𝓤
@@ -199,9 +199,9 @@ module _ {M : Type 1} (𝓤 : URA M) (H : Heap 𝓤) (A : Atoms 𝓤) (W : Given
   abbrev Post : Val → SProp 𝓤
   Post = walkOf 𝓤 H A own.ended stayed (own.clauses 𝓤 H A at-mem run) .post (((κ₀, (κ₁, (κ₂, (κ₃, (κ₄, tt))))), (q₀, (q₁, (q₂, (q₃, (q₄, tt))))), tt, the-args, the-vals), tt)
 
-  the-exit : (r : DigestStep) (w : Val) → Is DigestStep-type.the-row r (w ∷ []) → (list-exit : List Entry) → length list-exit ≡ length list → (store-exit : List ℕ) → length store-exit ≡ length store → (area-exit : List ℕ) → length area-exit ≡ length area → (tickets-exit : List ℕ) → length tickets-exit ≡ length tickets → (DigestSays work (list) (store) (page) (area) (tickets) (r .reply) (r .work) (list-exit) (store-exit) (area-exit) (tickets-exit)) → ent 𝓤 (⋆ 𝓤 H A (‵ (flft κ₀ q₀) ∷ ‵ (flft κ₁ q₁) ∷ ‵ (flft κ₂ q₂) ∷ ‵ (flft κ₃ q₃) ∷ ‵ (flft κ₄ q₄) ∷ ‵ (Own-list list-exit) ∷ ‵ (Own-store store-exit) ∷ ‵ (Own-page page) ∷ ‵ (Own-area area-exit) ∷ ‵ (Own-tickets tickets-exit) ∷ [])) (Post w)
+  the-exit : (r : DigestStep) (w : Val) → Is DigestStep-type.the-row r (w ∷ []) → (list-exit : List Entry) → length list-exit ≡ length list → (store-exit : List ℕ) → length store-exit ≡ length store → (area-exit : List ℕ) → length area-exit ≡ length area → (tickets-exit : List ℕ) → length tickets-exit ≡ length tickets → (DigestSays work (list) (store) (page) (area) (tickets) (r .reply) (r .work) (list-exit) (store-exit) (area-exit) (tickets-exit)) → ent 𝓤 (⋆ 𝓤 H A (‵ (flft κ₀ q₀) ∷ ‵ (flft κ₁ q₁) ∷ ‵ (flft κ₂ q₂) ∷ ‵ (flft κ₃ q₃) ∷ ‵ (flft κ₄ q₄) ∷ ‵ (finally Entry-type.the-row γ-list list-exit) ∷ ‵ (finally u8 γ-store store-exit) ∷ ‵ (Own-page page) ∷ ‵ (finally u8 γ-area area-exit) ∷ ‵ (finally u8 γ-tickets tickets-exit) ∷ [])) (Post w)
   the-exit r w is list-exit len-list store-exit len-store area-exit len-area tickets-exit len-tickets fact-of =
-      qed W (‵ (flft κ₀ q₀) ∷ ‵ (flft κ₁ q₁) ∷ ‵ (flft κ₂ q₂) ∷ ‵ (flft κ₃ q₃) ∷ ‵ (flft κ₄ q₄) ∷ ‵ (Own-list list-exit) ∷ ‵ (Own-store store-exit) ∷ ‵ (Own-page page) ∷ ‵ (Own-area area-exit) ∷ ‵ (Own-tickets tickets-exit) ∷ []) ∵ k-suffices ! _ (ends-at 𝓤 H A own.ended stayed (own.clauses 𝓤 H A at-mem run) W (((κ₀, (κ₁, (κ₂, (κ₃, (κ₄, tt))))), (q₀, (q₁, (q₂, (q₃, (q₄, tt))))), tt, the-args, the-vals), tt) w r (tt, (list-exit, (store-exit, (tt, (area-exit, (tickets-exit, tt)))))) (tt, (len-list, (len-store, (tt, (len-area, (len-tickets, tt))))))) $ k-says ! fact-of $ k-nothing ! $ k-move ! (5 ∷ 0 ∷ []) $ k-join ! $ k-move ! (4 ∷ 0 ∷ []) $ k-join ! $ k-move ! (3 ∷ 0 ∷ []) $ k-join ! $ k-move ! (2 ∷ 0 ∷ []) $ k-join ! $ k-move ! (1 ∷ 0 ∷ []) $ k-join ! $ k-frame ! $ k-nothing ! $ k-move ! (5 ∷ 0 ∷ []) $ k-fjoin ! $ k-move ! (4 ∷ 0 ∷ []) $ k-fjoin ! $ k-move ! (3 ∷ 0 ∷ []) $ k-fjoin ! $ k-move ! (2 ∷ 0 ∷ []) $ k-fjoin ! $ k-move ! (1 ∷ 0 ∷ []) $ k-fjoin ! $ k-owned ! Work-type.the-row (Is Work-type.the-row) (LL.makes Work-type.the-type Work-laws.the-plain 𝓤 H A) work _ is-work $ k-fjoin ! $ k-owned ! DigestStep-type.the-row (Is DigestStep-type.the-row) (LL.makes DigestStep-type.the-type DigestStep-laws.the-plain 𝓤 H A) r _ is $ k-move ! (1 ∷ 0 ∷ []) $ k-done !
+      qed W (‵ (flft κ₀ q₀) ∷ ‵ (flft κ₁ q₁) ∷ ‵ (flft κ₂ q₂) ∷ ‵ (flft κ₃ q₃) ∷ ‵ (flft κ₄ q₄) ∷ ‵ (finally Entry-type.the-row γ-list list-exit) ∷ ‵ (finally u8 γ-store store-exit) ∷ ‵ (Own-page page) ∷ ‵ (finally u8 γ-area area-exit) ∷ ‵ (finally u8 γ-tickets tickets-exit) ∷ []) ∵ k-suffices ! _ (ends-at 𝓤 H A own.ended stayed (own.clauses 𝓤 H A at-mem run) W (((κ₀, (κ₁, (κ₂, (κ₃, (κ₄, tt))))), (q₀, (q₁, (q₂, (q₃, (q₄, tt))))), tt, the-args, the-vals), tt) w r (tt, (list-exit, (store-exit, (tt, (area-exit, (tickets-exit, tt)))))) (tt, (len-list, (len-store, (tt, (len-area, (len-tickets, tt))))))) $ k-says ! fact-of $ k-nothing ! $ k-move ! (5 ∷ 0 ∷ []) $ k-join ! $ k-move ! (4 ∷ 0 ∷ []) $ k-join ! $ k-move ! (3 ∷ 0 ∷ []) $ k-join ! $ k-move ! (2 ∷ 0 ∷ []) $ k-join ! $ k-move ! (1 ∷ 0 ∷ []) $ k-join ! $ k-frame ! $ k-nothing ! $ k-move ! (5 ∷ 0 ∷ []) $ k-fjoin ! $ k-move ! (4 ∷ 0 ∷ []) $ k-fjoin ! $ k-move ! (3 ∷ 0 ∷ []) $ k-fjoin ! $ k-move ! (2 ∷ 0 ∷ []) $ k-fjoin ! $ k-move ! (1 ∷ 0 ∷ []) $ k-fjoin ! $ k-owned ! Work-type.the-row (Is Work-type.the-row) (LL.makes Work-type.the-type Work-laws.the-plain 𝓤 H A) work _ is-work $ k-fjoin ! $ k-owned ! DigestStep-type.the-row (Is DigestStep-type.the-row) (LL.makes DigestStep-type.the-type DigestStep-laws.the-plain 𝓤 H A) r _ is $ k-move ! (1 ∷ 0 ∷ []) $ k-done !
 
   module _ (𝓣 : Tables 𝓤 H) (known₁ : Triple 𝓤 (𝓣 .C #leaf-split·bare-rows) (Callee₁ 𝓤 H A at-mem run)) (known₂ : Triple 𝓤 (𝓣 .C #leaf-split·bare-keys) (Callee₂ 𝓤 H A at-mem run)) (known₃ : Triple 𝓤 (𝓣 .C #leaf-split·digest-in) (Callee₃ 𝓤 H A at-mem run)) where
     walk : ent 𝓤 (onEntry 𝓤 H A own.signature (κ₀, (κ₁, (κ₂, (κ₃, (κ₄, tt))))) (q₀, (q₁, (q₂, (q₃, (q₄, tt))))) the-args the-vals) (WpFn 𝓤 H (𝓣 .C) (𝓣 .Λ) code.function ((mach-Work work) ∷ sv-list ∷ sv-store ∷ sv-page ∷ sv-area ∷ sv-tickets ∷ []) Post)
@@ -225,6 +225,7 @@ module _ {M : Type 1} (𝓤 : URA M) (H : Heap 𝓤) (A : Atoms 𝓤) (W : Given
         k-fsplit ! $ k-move ! (1 ∷ []) $
         k-drop ! $
         use0 W (raw ((Callee₁ 𝓤 H A at-mem run) .pre (to₁ 𝓤 H A W at-mem run))) (asks₁ 𝓤 H A W at-mem run) $
+        stands W (_ ∷ _ ∷ _ ∷ _ ∷ _ ∷ _ ∷ _ ∷ _ ∷ _ ∷ _ ∷ _ ∷ []) (none ∷ has _ ∷ has _ ∷ has _ ∷ has _ ∷ has _ ∷ has _ ∷ []) $
         k-calls-at ! (fmOf 𝓤 H (W .laws) 𝓣) (Callee₁ 𝓤 H A at-mem run) known₁ (to₁ 𝓤 H A W at-mem run) (k-no-more !) (λ w₁.
         use1 W (later (k-some (λ (r₁ : List (List ℕ)). (‵ ftrue ⊛ ‵ ((Array (Array usize 5) 64) .own r₁ (w₁ ∷ []))) ⊛ raw (ensured 𝓤 H A callee₁.ended (callee₁.clauses 𝓤 H A at-mem run) tt (args₁ 𝓤 H A W at-mem run) tt r₁)))) (id⊢ 𝓤 _) $ k-await ! tt $ k-pick ! (λ r₁.
         k-split ! $ k-move ! (1 ∷ []) $
@@ -235,9 +236,9 @@ module _ {M : Type 1} (𝓤 : URA M) (H : Heap 𝓤) (A : Atoms 𝓤) (W : Given
         k-land ! (k-from ! (k-stop !)) (k-init ! 38 refl (array-lawful 𝓤 H A W (Array usize 5) (array-lawful 𝓤 H A W usize (uint-lawful 𝓤 H A W w64) 5) 64 .typed r₁ _ is₁ .0)) $
         k-drop ! $
         k-drop ! $
-        stands W (_ ∷ _ ∷ _ ∷ _ ∷ _ ∷ _ ∷ _ ∷ _ ∷ _ ∷ _ ∷ []) (none ∷ has _ ∷ has _ ∷ has _ ∷ has _ ∷ has _ ∷ has _ ∷ none ∷ none ∷ has _ ∷ []) $
         k-assigns ! (k-of-opd ! (k-load ! (k-from ! (k-stop !)) (k-look ! 36 refl))) (k-from ! (k-stop !)) (k-init ! 40 refl (array-lawful 𝓤 H A W (Array usize 5) (array-lawful 𝓤 H A W usize (uint-lawful 𝓤 H A W w64) 5) 64 .typed r₁ _ is₁ .0)) $
         use0 W (raw ((Callee₂ 𝓤 H A at-mem run) .pre (to₂ 𝓤 H A W at-mem run))) (asks₂ 𝓤 H A W at-mem run) $
+        stands W (_ ∷ _ ∷ _ ∷ _ ∷ _ ∷ _ ∷ _ ∷ _ ∷ _ ∷ _ ∷ _ ∷ []) (none ∷ has _ ∷ has _ ∷ has _ ∷ has _ ∷ has _ ∷ has _ ∷ has _ ∷ none ∷ has _ ∷ []) $
         k-calls-at ! (fmOf 𝓤 H (W .laws) 𝓣) (Callee₂ 𝓤 H A at-mem run) known₂ (to₂ 𝓤 H A W at-mem run) (k-no-more !) (λ w₂.
         use1 W (later (k-some (λ (r₂ : List (List ℕ)). (‵ ftrue ⊛ ‵ ((Array (Array u8 32) 64) .own r₂ (w₂ ∷ []))) ⊛ raw (ensured 𝓤 H A callee₂.ended (callee₂.clauses 𝓤 H A at-mem run) tt (args₂ 𝓤 H A W at-mem run) tt r₂)))) (id⊢ 𝓤 _) $ k-await ! tt $ k-pick ! (λ r₂.
         k-split ! $ k-move ! (1 ∷ []) $
@@ -248,7 +249,6 @@ module _ {M : Type 1} (𝓤 : URA M) (H : Heap 𝓤) (A : Atoms 𝓤) (W : Given
         k-land ! (k-from ! (k-stop !)) (k-init ! 36 refl (array-lawful 𝓤 H A W (Array u8 32) (array-lawful 𝓤 H A W u8 (uint-lawful 𝓤 H A W w8) 32) 64 .typed r₂ _ is₂ .0)) $
         k-drop ! $
         k-drop ! $
-        stands W (_ ∷ _ ∷ _ ∷ _ ∷ _ ∷ _ ∷ _ ∷ _ ∷ _ ∷ _ ∷ []) (none ∷ has _ ∷ has _ ∷ has _ ∷ has _ ∷ has _ ∷ has _ ∷ has _ ∷ none ∷ has _ ∷ has _ ∷ []) $
         k-assigns ! (k-of-opd ! (k-load ! (k-from ! (k-stop !)) (k-look ! 34 refl))) (k-from ! (k-stop !)) (k-init ! 38 refl (array-lawful 𝓤 H A W (Array u8 32) (array-lawful 𝓤 H A W u8 (uint-lawful 𝓤 H A W w8) 32) 64 .typed r₂ _ is₂ .0)) $
         k-assigns ! (k-addr ! (k-from ! (k-fld ! refl (k-hop ! (k-look-in ! 50 (k-sub ! 0 refl (k-whole !))) (k-stop !))))) (k-from ! (k-stop !)) (k-init ! 32 refl (tt, tt)) $
         k-assigns ! (k-agg ! (k-and-then ! (k-load ! (k-from ! (k-stop !)) (k-look ! 32 refl)) (k-and-then ! (k-load ! (k-from ! (k-fld ! refl (k-stop !))) (k-look-in ! 50 (k-sub ! 1 refl (k-whole !)))) (k-no-more !)))) (k-from ! (k-stop !)) (k-init ! 30 refl (tt, (tt, (record { fits = room-list .0 }, tt)))) $
@@ -262,34 +262,22 @@ module _ {M : Type 1} (𝓤 : URA M) (H : Heap 𝓤) (A : Atoms 𝓤) (W : Given
         k-assigns ! (k-agg ! (k-and-then ! (k-load ! (k-from ! (k-stop !)) (k-look ! 16 refl)) (k-and-then ! (k-load ! (k-from ! (k-fld ! refl (k-stop !))) (k-look-in ! 44 (k-sub ! 1 refl (k-whole !)))) (k-no-more !)))) (k-from ! (k-stop !)) (k-init ! 14 refl (tt, (tt, (record { fits = room-area .0 }, tt)))) $
         k-assigns ! (k-addr ! (k-from ! (k-fld ! refl (k-hop ! (k-look-in ! 42 (k-sub ! 0 refl (k-whole !))) (k-stop !))))) (k-from ! (k-stop !)) (k-init ! 12 refl (tt, tt)) $
         k-assigns ! (k-agg ! (k-and-then ! (k-load ! (k-from ! (k-stop !)) (k-look ! 12 refl)) (k-and-then ! (k-load ! (k-from ! (k-fld ! refl (k-stop !))) (k-look-in ! 42 (k-sub ! 1 refl (k-whole !)))) (k-no-more !)))) (k-from ! (k-stop !)) (k-init ! 10 refl (tt, (tt, (record { fits = room-tickets .0 }, tt)))) $
-        k-lft-new ! tt (λ ν-list₃.
-        k-move ! (5 ∷ 10 ∷ []) $
-        use2 W (later (k-some (λ (δ : GName). ‵ (MutSlice (named 0) (ν-list₃ ∷ []) Entry-type.the-row .own (record { ptr = (b-list, o-list); name = δ; now = list }) (sv-list ∷ [])) ⊛ ‵ (LentAgain Entry-type.the-row κ₀ (ν-list₃ ∷ []) q₀ γ-list b-list o-list δ list)))) (lends-again-at Entry-type.the-row κ₀ (ν-list₃ ∷ []) q₀ γ-list b-list o-list 𝓤 H A W (named 0) (named 0) list (length list) refl) $ k-await ! tt $ k-pick ! (λ δ-list₃. k-split ! $
         k-lft-new ! tt (λ ν-rows₃.
         k-owned ! (Array (Array usize 5) 64) (Is (Array (Array usize 5) 64)) (array-makes 𝓤 H A W (Array usize 5) (array-makes 𝓤 H A W usize (uint-makes 𝓤 H A W w64) 5) 64) r₁ (w₁ ∷ []) is₁ $
-        k-move ! (43 ∷ 0 ∷ []) $
+        k-move ! (42 ∷ 0 ∷ []) $
         use2 W (later (k-some (λ (δ : GName). ‵ (MutSlice (named 0) (ν-rows₃ ∷ []) (Array usize 5) .own (record { ptr = (l₇, 0); name = δ; now = r₁ }) (sliceVal (l₇, 0) 64 ∷ [])) ⊛ ‵ (flent (ν-rows₃ ∷ []) (Held (Array usize 5) 64 l₇ 0 δ))))) (lends-local 𝓤 H A W (Array usize 5) tt 64 l₇ (ν-rows₃ ∷ []) (named 0) r₁ w₁ (lit< tt, lit< tt)) $ k-await ! tt $ k-pick ! (λ δ-rows₃. k-split ! $
         k-lft-new ! tt (λ ν-keys₃.
         k-owned ! (Array (Array u8 32) 64) (Is (Array (Array u8 32) 64)) (array-makes 𝓤 H A W (Array u8 32) (array-makes 𝓤 H A W u8 (uint-makes 𝓤 H A W w8) 32) 64) r₂ (w₂ ∷ []) is₂ $
-        k-move ! (44 ∷ 0 ∷ []) $
+        k-move ! (43 ∷ 0 ∷ []) $
         use2 W (later (k-some (λ (δ : GName). ‵ (MutSlice (named 0) (ν-keys₃ ∷ []) (Array u8 32) .own (record { ptr = (l₈, 0); name = δ; now = r₂ }) (sliceVal (l₈, 0) 64 ∷ [])) ⊛ ‵ (flent (ν-keys₃ ∷ []) (Held (Array u8 32) 64 l₈ 0 δ))))) (lends-local 𝓤 H A W (Array u8 32) tt 64 l₈ (ν-keys₃ ∷ []) (named 0) r₂ w₂ (lit< tt, lit< tt)) $ k-await ! tt $ k-pick ! (λ δ-keys₃. k-split ! $
-        k-lft-new ! tt (λ ν-store₃.
-        k-move ! (13 ∷ 17 ∷ []) $
-        use2 W (later (k-some (λ (δ : GName). ‵ (MutSlice (named 0) (ν-store₃ ∷ []) u8 .own (record { ptr = (b-store, o-store); name = δ; now = store }) (sv-store ∷ [])) ⊛ ‵ (LentAgain u8 κ₁ (ν-store₃ ∷ []) q₁ γ-store b-store o-store δ store)))) (lends-again-at u8 κ₁ (ν-store₃ ∷ []) q₁ γ-store b-store o-store 𝓤 H A W (named 1) (named 0) store (length store) refl) $ k-await ! tt $ k-pick ! (λ δ-store₃. k-split ! $
-        k-move ! (14 ∷ []) $
+        k-move ! (8 ∷ []) $
         use1 W (‵ (Own-page page) ⊛ ‵ (Own-page page)) (shr-slice-copy 𝓤 H A W (named 2) κ₂ u8 .twice (ref-page page) (sv-page ∷ [])) $ k-split ! $
-        k-lft-new ! tt (λ ν-area₃.
-        k-move ! (16 ∷ 18 ∷ []) $
-        use2 W (later (k-some (λ (δ : GName). ‵ (MutSlice (named 0) (ν-area₃ ∷ []) u8 .own (record { ptr = (b-area, o-area); name = δ; now = area }) (sv-area ∷ [])) ⊛ ‵ (LentAgain u8 κ₃ (ν-area₃ ∷ []) q₃ γ-area b-area o-area δ area)))) (lends-again-at u8 κ₃ (ν-area₃ ∷ []) q₃ γ-area b-area o-area 𝓤 H A W (named 3) (named 0) area (length area) refl) $ k-await ! tt $ k-pick ! (λ δ-area₃. k-split ! $
-        k-lft-new ! tt (λ ν-tickets₃.
-        k-move ! (18 ∷ 19 ∷ []) $
-        use2 W (later (k-some (λ (δ : GName). ‵ (MutSlice (named 0) (ν-tickets₃ ∷ []) u8 .own (record { ptr = (b-tickets, o-tickets); name = δ; now = tickets }) (sv-tickets ∷ [])) ⊛ ‵ (LentAgain u8 κ₄ (ν-tickets₃ ∷ []) q₄ γ-tickets b-tickets o-tickets δ tickets)))) (lends-again-at u8 κ₄ (ν-tickets₃ ∷ []) q₄ γ-tickets b-tickets o-tickets 𝓤 H A W (named 4) (named 0) tickets (length tickets) refl) $ k-await ! tt $ k-pick ! (λ δ-tickets₃. k-split ! $
-        k-move ! (19 ∷ 16 ∷ 13 ∷ 10 ∷ 20 ∷ 5 ∷ 2 ∷ 17 ∷ 14 ∷ 11 ∷ 8 ∷ 6 ∷ 3 ∷ 0 ∷ []) $
-        k-group ! 14 $ use1 W (raw ((Callee₃ 𝓤 H A at-mem run) .pre (to₃ 𝓤 H A W at-mem run (ν-list₃ ∷ []) fullShare (ν-rows₃ ∷ []) fullShare (ν-keys₃ ∷ []) fullShare (ν-store₃ ∷ []) fullShare κ₂ q₂ (ν-area₃ ∷ []) fullShare (ν-tickets₃ ∷ []) fullShare work (mach-Work work) b-list o-list δ-list₃ list (length list) l₇ 0 δ-rows₃ r₁ 64 l₈ 0 δ-keys₃ r₂ 64 b-store o-store δ-store₃ store (length store) b-page o-page γ-page page (length page) b-area o-area δ-area₃ area (length area) b-tickets o-tickets δ-tickets₃ tickets (length tickets)))) (asks₃ 𝓤 H A W at-mem run (ν-list₃ ∷ []) fullShare (ν-rows₃ ∷ []) fullShare (ν-keys₃ ∷ []) fullShare (ν-store₃ ∷ []) fullShare κ₂ q₂ (ν-area₃ ∷ []) fullShare (ν-tickets₃ ∷ []) fullShare work (mach-Work work) b-list o-list δ-list₃ list (length list) l₇ 0 δ-rows₃ r₁ 64 l₈ 0 δ-keys₃ r₂ 64 b-store o-store δ-store₃ store (length store) b-page o-page γ-page page (length page) b-area o-area δ-area₃ area (length area) b-tickets o-tickets δ-tickets₃ tickets (length tickets) is-work ((subst (λ (k : ℕ). roomNeeded work (length list) ≤ k) (sym f₁) req, subst (λ (k : ℕ). roomNeeded work (length list) ≤ k) (sym f₂) req))) $
-        k-calls-at ! (fmOf 𝓤 H (W .laws) 𝓣) (Callee₃ 𝓤 H A at-mem run) known₃ (to₃ 𝓤 H A W at-mem run (ν-list₃ ∷ []) fullShare (ν-rows₃ ∷ []) fullShare (ν-keys₃ ∷ []) fullShare (ν-store₃ ∷ []) fullShare κ₂ q₂ (ν-area₃ ∷ []) fullShare (ν-tickets₃ ∷ []) fullShare work (mach-Work work) b-list o-list δ-list₃ list (length list) l₇ 0 δ-rows₃ r₁ 64 l₈ 0 δ-keys₃ r₂ 64 b-store o-store δ-store₃ store (length store) b-page o-page γ-page page (length page) b-area o-area δ-area₃ area (length area) b-tickets o-tickets δ-tickets₃ tickets (length tickets)) (k-and-then ! (k-load ! (k-from ! (k-stop !)) (k-look ! 48 refl)) (k-and-then ! (k-load ! (k-from ! (k-stop !)) (k-look ! 28 refl)) (k-and-then ! (k-load ! (k-from ! (k-stop !)) (k-look ! 24 refl)) (k-and-then ! (k-load ! (k-from ! (k-stop !)) (k-look ! 20 refl)) (k-and-then ! (k-load ! (k-from ! (k-stop !)) (k-look ! 16 refl)) (k-and-then ! (k-load ! (k-from ! (k-stop !)) (k-look ! 42 refl)) (k-and-then ! (k-load ! (k-from ! (k-stop !)) (k-look ! 12 refl)) (k-and-then ! (k-load ! (k-from ! (k-stop !)) (k-look ! 8 refl)) (k-no-more !))))))))) (λ w₃.
-        use1 W (later (k-some (λ (r₃ : DigestStep). ((‵ (flft (ν-list₃ ∷ []) fullShare) ⊛ ‵ (flft (ν-rows₃ ∷ []) fullShare) ⊛ ‵ (flft (ν-keys₃ ∷ []) fullShare) ⊛ ‵ (flft (ν-store₃ ∷ []) fullShare) ⊛ ‵ (flft κ₂ q₂) ⊛ ‵ (flft (ν-area₃ ∷ []) fullShare) ⊛ ‵ (flft (ν-tickets₃ ∷ []) fullShare) ⊛ ‵ ftrue) ⊛ ‵ (DigestStep-type.the-row .own r₃ (w₃ ∷ []))) ⊛ raw (ensured 𝓤 H A callee₃.ended (callee₃.clauses 𝓤 H A at-mem run) (ν-list₃ ∷ [], (ν-rows₃ ∷ [], (ν-keys₃ ∷ [], (ν-store₃ ∷ [], (κ₂, (ν-area₃ ∷ [], (ν-tickets₃ ∷ [], tt))))))) (args₃ 𝓤 H A W at-mem run (ν-list₃ ∷ []) fullShare (ν-rows₃ ∷ []) fullShare (ν-keys₃ ∷ []) fullShare (ν-store₃ ∷ []) fullShare κ₂ q₂ (ν-area₃ ∷ []) fullShare (ν-tickets₃ ∷ []) fullShare work (mach-Work work) b-list o-list δ-list₃ list (length list) l₇ 0 δ-rows₃ r₁ 64 l₈ 0 δ-keys₃ r₂ 64 b-store o-store δ-store₃ store (length store) b-page o-page γ-page page (length page) b-area o-area δ-area₃ area (length area) b-tickets o-tickets δ-tickets₃ tickets (length tickets)) tt r₃)))) (id⊢ 𝓤 _) $ k-await ! tt $ k-pick ! (λ r₃.
+        k-move ! (16 ∷ 7 ∷ 4 ∷ 15 ∷ 14 ∷ 13 ∷ 12 ∷ 11 ∷ 5 ∷ 2 ∷ 10 ∷ 0 ∷ 9 ∷ 8 ∷ []) $
+        k-group ! 14 $ use1 W (raw ((Callee₃ 𝓤 H A at-mem run) .pre (to₃ 𝓤 H A W at-mem run κ₀ q₀ (ν-rows₃ ∷ []) fullShare (ν-keys₃ ∷ []) fullShare κ₁ q₁ κ₂ q₂ κ₃ q₃ κ₄ q₄ work (mach-Work work) b-list o-list γ-list list (length list) l₇ 0 δ-rows₃ r₁ 64 l₈ 0 δ-keys₃ r₂ 64 b-store o-store γ-store store (length store) b-page o-page γ-page page (length page) b-area o-area γ-area area (length area) b-tickets o-tickets γ-tickets tickets (length tickets)))) (asks₃ 𝓤 H A W at-mem run κ₀ q₀ (ν-rows₃ ∷ []) fullShare (ν-keys₃ ∷ []) fullShare κ₁ q₁ κ₂ q₂ κ₃ q₃ κ₄ q₄ work (mach-Work work) b-list o-list γ-list list (length list) l₇ 0 δ-rows₃ r₁ 64 l₈ 0 δ-keys₃ r₂ 64 b-store o-store γ-store store (length store) b-page o-page γ-page page (length page) b-area o-area γ-area area (length area) b-tickets o-tickets γ-tickets tickets (length tickets) is-work ((subst (λ (k : ℕ). roomNeeded work (length list) ≤ k) (sym f₁) req, subst (λ (k : ℕ). roomNeeded work (length list) ≤ k) (sym f₂) req))) $
+        k-calls-at ! (fmOf 𝓤 H (W .laws) 𝓣) (Callee₃ 𝓤 H A at-mem run) known₃ (to₃ 𝓤 H A W at-mem run κ₀ q₀ (ν-rows₃ ∷ []) fullShare (ν-keys₃ ∷ []) fullShare κ₁ q₁ κ₂ q₂ κ₃ q₃ κ₄ q₄ work (mach-Work work) b-list o-list γ-list list (length list) l₇ 0 δ-rows₃ r₁ 64 l₈ 0 δ-keys₃ r₂ 64 b-store o-store γ-store store (length store) b-page o-page γ-page page (length page) b-area o-area γ-area area (length area) b-tickets o-tickets γ-tickets tickets (length tickets)) (k-and-then ! (k-load ! (k-from ! (k-stop !)) (k-look ! 44 refl)) (k-and-then ! (k-load ! (k-from ! (k-stop !)) (k-look ! 24 refl)) (k-and-then ! (k-load ! (k-from ! (k-stop !)) (k-look ! 20 refl)) (k-and-then ! (k-load ! (k-from ! (k-stop !)) (k-look ! 16 refl)) (k-and-then ! (k-load ! (k-from ! (k-stop !)) (k-look ! 12 refl)) (k-and-then ! (k-load ! (k-from ! (k-stop !)) (k-look ! 38 refl)) (k-and-then ! (k-load ! (k-from ! (k-stop !)) (k-look ! 8 refl)) (k-and-then ! (k-load ! (k-from ! (k-stop !)) (k-look ! 4 refl)) (k-no-more !))))))))) (λ w₃.
+        use1 W (later (k-some (λ (r₃ : DigestStep). ((‵ (flft κ₀ q₀) ⊛ ‵ (flft (ν-rows₃ ∷ []) fullShare) ⊛ ‵ (flft (ν-keys₃ ∷ []) fullShare) ⊛ ‵ (flft κ₁ q₁) ⊛ ‵ (flft κ₂ q₂) ⊛ ‵ (flft κ₃ q₃) ⊛ ‵ (flft κ₄ q₄) ⊛ ‵ ftrue) ⊛ ‵ (DigestStep-type.the-row .own r₃ (w₃ ∷ []))) ⊛ raw (ensured 𝓤 H A callee₃.ended (callee₃.clauses 𝓤 H A at-mem run) (κ₀, (ν-rows₃ ∷ [], (ν-keys₃ ∷ [], (κ₁, (κ₂, (κ₃, (κ₄, tt))))))) (args₃ 𝓤 H A W at-mem run κ₀ q₀ (ν-rows₃ ∷ []) fullShare (ν-keys₃ ∷ []) fullShare κ₁ q₁ κ₂ q₂ κ₃ q₃ κ₄ q₄ work (mach-Work work) b-list o-list γ-list list (length list) l₇ 0 δ-rows₃ r₁ 64 l₈ 0 δ-keys₃ r₂ 64 b-store o-store γ-store store (length store) b-page o-page γ-page page (length page) b-area o-area γ-area area (length area) b-tickets o-tickets γ-tickets tickets (length tickets)) tt r₃)))) (id⊢ 𝓤 _) $ k-await ! tt $ k-pick ! (λ r₃.
         k-split ! $ k-move ! (1 ∷ []) $
-        use1 W (k-some (λ (us : Unit {0} × (List Entry × (List (List ℕ) × (List (List ℕ) × (List ℕ × (Unit {0} × (List ℕ × (List ℕ × Unit {0})))))))). ‵ (lasts callee₃.ended (ν-list₃ ∷ [], (ν-rows₃ ∷ [], (ν-keys₃ ∷ [], (ν-store₃ ∷ [], (κ₂, (ν-area₃ ∷ [], (ν-tickets₃ ∷ [], tt))))))) (args₃ 𝓤 H A W at-mem run (ν-list₃ ∷ []) fullShare (ν-rows₃ ∷ []) fullShare (ν-keys₃ ∷ []) fullShare (ν-store₃ ∷ []) fullShare κ₂ q₂ (ν-area₃ ∷ []) fullShare (ν-tickets₃ ∷ []) fullShare work (mach-Work work) b-list o-list δ-list₃ list (length list) l₇ 0 δ-rows₃ r₁ 64 l₈ 0 δ-keys₃ r₂ 64 b-store o-store δ-store₃ store (length store) b-page o-page γ-page page (length page) b-area o-area δ-area₃ area (length area) b-tickets o-tickets δ-tickets₃ tickets (length tickets)) us) ⊛ raw (fact 𝓤 (Said₃ 𝓤 H A W at-mem run work list r₁ r₂ store page area tickets r₃ (us .1 .0) (us .1 .1 .0) (us .1 .1 .1 .0) (us .1 .1 .1 .1 .0) (us .1 .1 .1 .1 .1 .1 .0) (us .1 .1 .1 .1 .1 .1 .1 .0))))) (id⊢ 𝓤 _) $ k-pick ! (λ zs₃. k-split ! $ k-move ! (1 ∷ []) $
+        use1 W (k-some (λ (us : Unit {0} × (List Entry × (List (List ℕ) × (List (List ℕ) × (List ℕ × (Unit {0} × (List ℕ × (List ℕ × Unit {0})))))))). ‵ (lasts callee₃.ended (κ₀, (ν-rows₃ ∷ [], (ν-keys₃ ∷ [], (κ₁, (κ₂, (κ₃, (κ₄, tt))))))) (args₃ 𝓤 H A W at-mem run κ₀ q₀ (ν-rows₃ ∷ []) fullShare (ν-keys₃ ∷ []) fullShare κ₁ q₁ κ₂ q₂ κ₃ q₃ κ₄ q₄ work (mach-Work work) b-list o-list γ-list list (length list) l₇ 0 δ-rows₃ r₁ 64 l₈ 0 δ-keys₃ r₂ 64 b-store o-store γ-store store (length store) b-page o-page γ-page page (length page) b-area o-area γ-area area (length area) b-tickets o-tickets γ-tickets tickets (length tickets)) us) ⊛ raw (fact 𝓤 (Said₃ 𝓤 H A W at-mem run work list r₁ r₂ store page area tickets r₃ (us .1 .0) (us .1 .1 .0) (us .1 .1 .1 .0) (us .1 .1 .1 .1 .0) (us .1 .1 .1 .1 .1 .1 .0) (us .1 .1 .1 .1 .1 .1 .1 .0))))) (id⊢ 𝓤 _) $ k-pick ! (λ zs₃. k-split ! $ k-move ! (1 ∷ []) $
         k-heard ! (Said₃ 𝓤 H A W at-mem run work list r₁ r₂ store page area tickets r₃ (zs₃ .1 .0) (zs₃ .1 .1 .0) (zs₃ .1 .1 .1 .0) (zs₃ .1 .1 .1 .1 .0) (zs₃ .1 .1 .1 .1 .1 .1 .0) (zs₃ .1 .1 .1 .1 .1 .1 .1 .0)) (λ f₃.
         let list-exit₃ = zs₃ .1 .0 in let rows-exit₃ = zs₃ .1 .1 .0 in let keys-exit₃ = zs₃ .1 .1 .1 .0 in let store-exit₃ = zs₃ .1 .1 .1 .1 .0 in let area-exit₃ = zs₃ .1 .1 .1 .1 .1 .1 .0 in let tickets-exit₃ = zs₃ .1 .1 .1 .1 .1 .1 .1 .0 in
         k-fsplit ! $ k-drop ! $
@@ -304,7 +292,7 @@ module _ {M : Type 1} (𝓤 : URA M) (H : Heap 𝓤) (A : Atoms 𝓤) (W : Given
         k-move ! (6 ∷ []) $
         k-split ! $ k-move ! (1 ∷ []) $
         k-peeks ! DigestStep-type.the-row (Is DigestStep-type.the-row) (shows 𝓤 H A DigestStep-type.the-row) r₃ (w₃ ∷ []) (λ is₃.
-        k-land ! (k-from ! (k-stop !)) (k-init ! 57 refl (LL.lawful DigestStep-type.the-type DigestStep-laws.the-laws 𝓤 H A W .typed r₃ _ is₃ .0)) $
+        k-land ! (k-from ! (k-stop !)) (k-init ! 53 refl (LL.lawful DigestStep-type.the-type DigestStep-laws.the-laws 𝓤 H A W .typed r₃ _ is₃ .0)) $
         k-drop ! $
         k-split ! $ k-move ! (1 ∷ []) $
         k-split ! $ k-move ! (1 ∷ []) $
@@ -314,38 +302,21 @@ module _ {M : Type 1} (𝓤 : URA M) (H : Heap 𝓤) (A : Atoms 𝓤) (W : Given
         k-split ! $ k-move ! (1 ∷ []) $
         k-split ! $ k-move ! (1 ∷ []) $
         k-drop ! $
-        k-move ! (6 ∷ []) $
-        k-lft-end ! tt $
-        k-move ! (0 ∷ 19 ∷ 12 ∷ []) $
-        use3 W (later (‵ (Own-list (zs₃ .1 .0)) ⊛ ‵ (flft κ₀ q₀))) (comes-back-at Entry-type.the-row κ₀ (ν-list₃ ∷ []) q₀ γ-list b-list o-list 𝓤 H A W (named 0) (named 0) list (length list) refl δ-list₃ (zs₃ .1 .0) room-list len-list₃) $ k-await ! tt $ k-split ! $
         k-move ! (5 ∷ []) $
         k-lft-end ! tt $
-        k-move ! (0 ∷ 16 ∷ 10 ∷ []) $
-        use3 W (later (‵ (Own-store (zs₃ .1 .1 .1 .1 .0)) ⊛ ‵ (flft κ₁ q₁))) (comes-back-at u8 κ₁ (ν-store₃ ∷ []) q₁ γ-store b-store o-store 𝓤 H A W (named 1) (named 0) store (length store) refl δ-store₃ (zs₃ .1 .1 .1 .1 .0) room-store len-store₃) $ k-await ! tt $ k-split ! $
-        k-move ! (5 ∷ []) $
-        k-lft-end ! tt $
-        k-move ! (0 ∷ 14 ∷ 10 ∷ []) $
-        use3 W (later (‵ (Own-area (zs₃ .1 .1 .1 .1 .1 .1 .0)) ⊛ ‵ (flft κ₃ q₃))) (comes-back-at u8 κ₃ (ν-area₃ ∷ []) q₃ γ-area b-area o-area 𝓤 H A W (named 3) (named 0) area (length area) refl δ-area₃ (zs₃ .1 .1 .1 .1 .1 .1 .0) room-area len-area₃) $ k-await ! tt $ k-split ! $
-        k-move ! (6 ∷ []) $
-        k-lft-end ! tt $
-        k-move ! (0 ∷ 13 ∷ 10 ∷ []) $
-        use3 W (later (‵ (Own-tickets (zs₃ .1 .1 .1 .1 .1 .1 .1 .0)) ⊛ ‵ (flft κ₄ q₄))) (comes-back-at u8 κ₄ (ν-tickets₃ ∷ []) q₄ γ-tickets b-tickets o-tickets 𝓤 H A W (named 4) (named 0) tickets (length tickets) refl δ-tickets₃ (zs₃ .1 .1 .1 .1 .1 .1 .1 .0) room-tickets len-tickets₃) $ k-await ! tt $ k-split ! $
-        k-move ! (10 ∷ []) $
-        k-lft-end ! tt $
-        k-move ! (0 ∷ 15 ∷ 12 ∷ []) $
+        k-move ! (0 ∷ 15 ∷ 11 ∷ []) $
         use3 W (later (k-some (λ (z : Val). ‵ (fat fullShare (tyAt piece.locals 7) l₇ 0 z) ⊛ ‵ ((Array (Array usize 5) 64) .own (zs₃ .1 .1 .0) (z ∷ []))))) (local-back 𝓤 H A W (Array usize 5) tt 64 l₇ (ν-rows₃ ∷ []) δ-rows₃ (zs₃ .1 .1 .0)) $ k-await ! tt $ k-pick ! (λ v-rows₃. k-split ! $ k-move ! (1 ∷ []) $
         k-peeks ! (Array (Array usize 5) 64) (Is (Array (Array usize 5) 64)) (shows 𝓤 H A (Array (Array usize 5) 64)) (zs₃ .1 .1 .0) (v-rows₃ ∷ []) (λ is-rows₃. k-drop ! $
-        k-move ! (1 ∷ 2 ∷ 3 ∷ 4 ∷ 5 ∷ 6 ∷ 7 ∷ 8 ∷ 9 ∷ 10 ∷ 11 ∷ 12 ∷ 13 ∷ 14 ∷ 15 ∷ 16 ∷ 17 ∷ 18 ∷ 19 ∷ 20 ∷ 21 ∷ 22 ∷ 23 ∷ 24 ∷ 25 ∷ 26 ∷ 27 ∷ 28 ∷ 29 ∷ 30 ∷ 31 ∷ 32 ∷ 33 ∷ 34 ∷ 35 ∷ 36 ∷ 37 ∷ 38 ∷ 39 ∷ 40 ∷ 41 ∷ 42 ∷ 0 ∷ []) $
-        k-move ! (9 ∷ []) $
+        sinks W 42 $
+        k-move ! (4 ∷ []) $
         k-lft-end ! tt $
-        k-move ! (0 ∷ 12 ∷ 10 ∷ []) $
+        k-move ! (0 ∷ 12 ∷ 9 ∷ []) $
         use3 W (later (k-some (λ (z : Val). ‵ (fat fullShare (tyAt piece.locals 8) l₈ 0 z) ⊛ ‵ ((Array (Array u8 32) 64) .own (zs₃ .1 .1 .1 .0) (z ∷ []))))) (local-back 𝓤 H A W (Array u8 32) tt 64 l₈ (ν-keys₃ ∷ []) δ-keys₃ (zs₃ .1 .1 .1 .0)) $ k-await ! tt $ k-pick ! (λ v-keys₃. k-split ! $ k-move ! (1 ∷ []) $
         k-peeks ! (Array (Array u8 32) 64) (Is (Array (Array u8 32) 64)) (shows 𝓤 H A (Array (Array u8 32) 64)) (zs₃ .1 .1 .1 .0) (v-keys₃ ∷ []) (λ is-keys₃. k-drop ! $
-        k-move ! (1 ∷ 2 ∷ 3 ∷ 4 ∷ 5 ∷ 6 ∷ 7 ∷ 8 ∷ 9 ∷ 10 ∷ 11 ∷ 12 ∷ 13 ∷ 14 ∷ 15 ∷ 16 ∷ 17 ∷ 18 ∷ 19 ∷ 20 ∷ 21 ∷ 22 ∷ 23 ∷ 24 ∷ 25 ∷ 26 ∷ 27 ∷ 28 ∷ 29 ∷ 30 ∷ 31 ∷ 32 ∷ 33 ∷ 34 ∷ 35 ∷ 36 ∷ 37 ∷ 38 ∷ 0 ∷ []) $
-        stands W (_ ∷ _ ∷ _ ∷ _ ∷ _ ∷ _ ∷ _ ∷ _ ∷ _ ∷ _ ∷ []) (has _ ∷ has _ ∷ has _ ∷ has _ ∷ has _ ∷ has _ ∷ has _ ∷ has _ ∷ has _ ∷ has _ ∷ has _ ∷ has _ ∷ has _ ∷ has _ ∷ has _ ∷ has _ ∷ has _ ∷ has _ ∷ has _ ∷ has _ ∷ has _ ∷ has _ ∷ has _ ∷ []) $
+        sinks W 38 $
         k-returns ! (k-look ! 54 refl) $ all-freed W (_ ∷ _ ∷ _ ∷ _ ∷ _ ∷ _ ∷ _ ∷ _ ∷ _ ∷ _ ∷ []) (has _ ∷ has _ ∷ has _ ∷ has _ ∷ has _ ∷ has _ ∷ has _ ∷ has _ ∷ has _ ∷ has _ ∷ has _ ∷ has _ ∷ has _ ∷ has _ ∷ has _ ∷ has _ ∷ has _ ∷ has _ ∷ has _ ∷ has _ ∷ has _ ∷ has _ ∷ has _ ∷ []) $
-        k-keep ! (7 ∷ 5 ∷ 8 ∷ 3 ∷ 1 ∷ 6 ∷ 4 ∷ 9 ∷ 2 ∷ 0 ∷ []) $
-        k-by ! (the-exit r₃ w₃ is₃ ((zs₃ .1 .0)) len-list₃ ((zs₃ .1 .1 .1 .1 .0)) len-store₃ ((zs₃ .1 .1 .1 .1 .1 .1 .0)) len-area₃ ((zs₃ .1 .1 .1 .1 .1 .1 .1 .0)) len-tickets₃ (f₃))))))))))))))))))))))))))))))))))))))))))))))))))))))))))))
+        k-keep ! (4 ∷ 3 ∷ 2 ∷ 1 ∷ 0 ∷ 8 ∷ 7 ∷ 9 ∷ 6 ∷ 5 ∷ []) $
+        k-by ! (the-exit r₃ w₃ is₃ ((zs₃ .1 .0)) len-list₃ ((zs₃ .1 .1 .1 .1 .0)) len-store₃ ((zs₃ .1 .1 .1 .1 .1 .1 .0)) len-area₃ ((zs₃ .1 .1 .1 .1 .1 .1 .1 .0)) len-tickets₃ (f₃))))))))))))))))))))))))))))))))))))))))))))))))))))
 
 module _ {M : Type 1} (𝓤 : URA M) (H : Heap 𝓤) (A : Atoms 𝓤) (W : Given 𝓤 H A) (mem : Memory → SProp 𝓤) (run : Routine → Fun 𝓤) (𝓣 : Tables 𝓤 H) (known₁ : Triple 𝓤 (𝓣 .C #leaf-split·bare-rows) (Callee₁ 𝓤 H A mem run)) (known₂ : Triple 𝓤 (𝓣 .C #leaf-split·bare-keys) (Callee₂ 𝓤 H A mem run)) (known₃ : Triple 𝓤 (𝓣 .C #leaf-split·digest-in) (Callee₃ 𝓤 H A mem run)) where
   digest-bare-walks : Walks 𝓤 H A own.ended stayed (WpFn 𝓤 H (𝓣 .C) (𝓣 .Λ) code.function) (own.clauses 𝓤 H A mem run)
@@ -354,7 +325,7 @@ module _ {M : Type 1} (𝓤 : URA M) (H : Heap 𝓤) (A : Atoms 𝓤) (W : Given
       (λ κs qs bounds a g are. needs 𝓤 (roomNeeded (a .0) (length ((a .1 .0 .now))) ≤ 64) _ (λ req. walk 𝓤 H A W mem run (κs .0) (κs .1 .0) (κs .1 .1 .0) (κs .1 .1 .1 .0) (κs .1 .1 .1 .1 .0) (qs .0) (qs .1 .0) (qs .1 .1 .0) (qs .1 .1 .1 .0) (qs .1 .1 .1 .1 .0) (a .0) (are .0) (a .1 .0 .ptr .0) (a .1 .0 .ptr .1) (a .1 .0 .name) (a .1 .0 .now) (are .1 .0 .0 .1) (a .1 .1 .0 .ptr .0) (a .1 .1 .0 .ptr .1) (a .1 .1 .0 .name) (a .1 .1 .0 .now) (are .1 .1 .0 .0 .1) (a .1 .1 .1 .0 .ptr .0) (a .1 .1 .1 .0 .ptr .1) (a .1 .1 .1 .0 .name) (a .1 .1 .1 .0 .now) (are .1 .1 .1 .0 .0 .1) (a .1 .1 .1 .1 .0 .ptr .0) (a .1 .1 .1 .1 .0 .ptr .1) (a .1 .1 .1 .1 .0 .name) (a .1 .1 .1 .1 .0 .now) (are .1 .1 .1 .1 .0 .0 .1) (a .1 .1 .1 .1 .1 .0 .ptr .0) (a .1 .1 .1 .1 .1 .0 .ptr .1) (a .1 .1 .1 .1 .1 .0 .name) (a .1 .1 .1 .1 .1 .0 .now) (are .1 .1 .1 .1 .1 .0 .0 .1) req 𝓣 known₁ known₂ known₃))
 
   digest-bare-meets : Meets 𝓤 H A own.signature (WpFn 𝓤 H (𝓣 .C) (𝓣 .Λ) code.function) (own.spec 𝓤 H A mem run)
-  digest-bare-meets = walk-meets 𝓤 H A own.ended stayed W (goes-none 𝓤 H A W 5 (λ _. Work-type.the-row) yes (λ κs x f. refl), (goes-slice 𝓤 H A W 5 0 tt (plain (λ _. Entry-type.the-row)), (goes-slice 𝓤 H A W 5 1 tt (plain (λ _. u8)), (goes-none-slice 𝓤 H A W 5 (2 ∷ []) tt (plain (λ _. u8)) yes, (goes-slice 𝓤 H A W 5 3 tt (plain (λ _. u8)), (goes-slice 𝓤 H A W 5 4 tt (plain (λ _. u8)), tt)))))) (own.clauses 𝓤 H A mem run)
+  digest-bare-meets = walk-meets 𝓤 H A own.ended stayed W (goes-none 𝓤 H A W 5 (λ _. Work-type.the-row) yes (λ κs x f. refl), (goes-gave-slice 𝓤 H A W 5 0 tt (plain (λ _. Entry-type.the-row)), (goes-gave-slice 𝓤 H A W 5 1 tt (plain (λ _. u8)), (goes-none-slice 𝓤 H A W 5 (2 ∷ []) tt (plain (λ _. u8)) yes, (goes-gave-slice 𝓤 H A W 5 3 tt (plain (λ _. u8)), (goes-gave-slice 𝓤 H A W 5 4 tt (plain (λ _. u8)), tt)))))) (own.clauses 𝓤 H A mem run)
       (WpFn 𝓤 H (𝓣 .C) (𝓣 .Λ) code.function) (WpFn-mono 𝓤 H (W .laws) 𝓣 code.function) digest-bare-walks
 
 pub digest-bare-spec : {M : Type 1} → stated.statement M

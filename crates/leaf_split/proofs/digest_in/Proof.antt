@@ -30,7 +30,7 @@ use denote.Plain.{Nothing, uint-makes, uint-lawful}
 use denote.Builtin.{u8, usize, ArrayOf}
 use denote.Array.{Array}
 use denote.Ref.{RefT}
-use denote.Slice.{sliceVal, MutSlice, ShrSlice, Room, slice-vals, mut-slice-tells, shr-slice-tells, shr-slice-copy}
+use denote.Slice.{finally, sliceVal, MutSlice, ShrSlice, Room, slice-vals, mut-slice-tells, shr-slice-tells, shr-slice-copy}
 use denote.Steps.{only, owned as k-owned, peeks as k-peeks, heard as k-heard, nothing as k-nothing}
 use denote.Triple.Entry.{onEntry}
 use denote.Triple.Spec.{Meets, tripleOf}
@@ -38,7 +38,7 @@ use denote.Triple.Statement.{Contract, Triple}
 use denote.Triple.Call.{calls-at as k-calls-at}
 use denote.Triple.Clauses.{ensured, lasts}
 use denote.Triple.Table.{entered, cited}
-use denote.Triple.Walked.{needs, Stays, stay-none, stay-none-slice, stay-slice, walkOf, goes-none, goes-none-slice, goes-slice, Walks, ends-at, walked, walk-meets, says as k-says}
+use denote.Triple.Walked.{needs, Stays, stay-none, stay-none-slice, stay-slice, gave-slice, walkOf, goes-none, goes-none-slice, goes-slice, goes-gave-slice, Walks, ends-at, walked, walk-meets, says as k-says}
 use denote.Exit.{yes}
 use denote.Signature.{plain}
 use Rattle.leaf_within.specs.Within.{roomNeeded, splitCount, SplitFrom, SplitOver, Gathers}
@@ -49,7 +49,7 @@ use Rattle.leaf_work.specs.Digest.{overwrite, digestOf}
 use Rattle.leaf_entries.specs.Lists.{gathered}
 use denote.Struct.Laws as LL
 use Rattle.leaf_entries.proofs.Locals.{tyAt}
-use Rattle.leaf_entries.proofs.Freed.{all-freed, stands, cells}
+use Rattle.leaf_entries.proofs.Freed.{all-freed, stands, sinks, cells}
 use Rattle.leaf_entries.proofs.Order.{lt-or-ge}
 use Rattle.leaf_entries.proofs.Again.{LentAgain, lends-again-at, comes-back-at}
 use Rattle.leaf_entries.proofs.Shared.{LentShared, shares-again-at, shared-back-at}
@@ -109,7 +109,7 @@ abbrev mach-Unused : Unused → Val
 mach-Unused z = only (LL.vals Unused-type.the-type Unused-laws.the-laws z)
 
 abbrev stayed : Stays (own.ended .signature .params) (own.ended .kept)
-stayed = (stay-none (λ _. Work-type.the-row) yes, (stay-slice (0 ∷ []) tt (plain (λ _. Entry-type.the-row)), (stay-slice (1 ∷ []) tt (ArrayOf (plain (λ _. usize)) (λ _. tt) 5), (stay-slice (2 ∷ []) tt (ArrayOf (plain (λ _. u8)) (λ _. tt) 32), (stay-slice (3 ∷ []) tt (plain (λ _. u8)), (stay-none-slice (4 ∷ []) tt (plain (λ _. u8)) yes, (stay-slice (5 ∷ []) tt (plain (λ _. u8)), (stay-slice (6 ∷ []) tt (plain (λ _. u8)), tt))))))))
+stayed = (stay-none (λ _. Work-type.the-row) yes, (gave-slice (0 ∷ []) tt (plain (λ _. Entry-type.the-row)), (stay-slice (1 ∷ []) tt (ArrayOf (plain (λ _. usize)) (λ _. tt) 5), (stay-slice (2 ∷ []) tt (ArrayOf (plain (λ _. u8)) (λ _. tt) 32), (gave-slice (3 ∷ []) tt (plain (λ _. u8)), (stay-none-slice (4 ∷ []) tt (plain (λ _. u8)) yes, (gave-slice (5 ∷ []) tt (plain (λ _. u8)), (gave-slice (6 ∷ []) tt (plain (λ _. u8)), tt))))))))
 
 module _ {M : Type 1} (𝓤 : URA M) (H : Heap 𝓤) (A : Atoms 𝓤) (mem : Memory → SProp 𝓤) (run : Routine → Fun 𝓤) where
   abbrev Callee₁ : Contract 𝓤
@@ -295,9 +295,9 @@ module _ {M : Type 1} (𝓤 : URA M) (H : Heap 𝓤) (A : Atoms 𝓤) (W : Given
   abbrev Post : Val → SProp 𝓤
   Post = walkOf 𝓤 H A own.ended stayed (own.clauses 𝓤 H A at-mem run) .post (((κ₀, (κ₁, (κ₂, (κ₃, (κ₄, (κ₅, (κ₆, tt))))))), (q₀, (q₁, (q₂, (q₃, (q₄, (q₅, (q₆, tt))))))), tt, the-args, the-vals), tt)
 
-  the-exit : (r : DigestStep) (w : Val) → Is DigestStep-type.the-row r (w ∷ []) → (list-exit : List Entry) → length list-exit ≡ length list → (rows-exit : List (List ℕ)) → length rows-exit ≡ length rows → (keys-exit : List (List ℕ)) → length keys-exit ≡ length keys → (store-exit : List ℕ) → length store-exit ≡ length store → (area-exit : List ℕ) → length area-exit ≡ length area → (tickets-exit : List ℕ) → length tickets-exit ≡ length tickets → (DigestSays work (list) (store) (page) (area) (tickets) (r .reply) (r .work) (list-exit) (store-exit) (area-exit) (tickets-exit)) → ent 𝓤 (⋆ 𝓤 H A (‵ (flft κ₀ q₀) ∷ ‵ (flft κ₁ q₁) ∷ ‵ (flft κ₂ q₂) ∷ ‵ (flft κ₃ q₃) ∷ ‵ (flft κ₄ q₄) ∷ ‵ (flft κ₅ q₅) ∷ ‵ (flft κ₆ q₆) ∷ ‵ (Own-list list-exit) ∷ ‵ (Own-rows rows-exit) ∷ ‵ (Own-keys keys-exit) ∷ ‵ (Own-store store-exit) ∷ ‵ (Own-page page) ∷ ‵ (Own-area area-exit) ∷ ‵ (Own-tickets tickets-exit) ∷ [])) (Post w)
+  the-exit : (r : DigestStep) (w : Val) → Is DigestStep-type.the-row r (w ∷ []) → (list-exit : List Entry) → length list-exit ≡ length list → (rows-exit : List (List ℕ)) → length rows-exit ≡ length rows → (keys-exit : List (List ℕ)) → length keys-exit ≡ length keys → (store-exit : List ℕ) → length store-exit ≡ length store → (area-exit : List ℕ) → length area-exit ≡ length area → (tickets-exit : List ℕ) → length tickets-exit ≡ length tickets → (DigestSays work (list) (store) (page) (area) (tickets) (r .reply) (r .work) (list-exit) (store-exit) (area-exit) (tickets-exit)) → ent 𝓤 (⋆ 𝓤 H A (‵ (flft κ₀ q₀) ∷ ‵ (flft κ₁ q₁) ∷ ‵ (flft κ₂ q₂) ∷ ‵ (flft κ₃ q₃) ∷ ‵ (flft κ₄ q₄) ∷ ‵ (flft κ₅ q₅) ∷ ‵ (flft κ₆ q₆) ∷ ‵ (finally Entry-type.the-row γ-list list-exit) ∷ ‵ (Own-rows rows-exit) ∷ ‵ (Own-keys keys-exit) ∷ ‵ (finally u8 γ-store store-exit) ∷ ‵ (Own-page page) ∷ ‵ (finally u8 γ-area area-exit) ∷ ‵ (finally u8 γ-tickets tickets-exit) ∷ [])) (Post w)
   the-exit r w is list-exit len-list rows-exit len-rows keys-exit len-keys store-exit len-store area-exit len-area tickets-exit len-tickets fact-of =
-      qed W (‵ (flft κ₀ q₀) ∷ ‵ (flft κ₁ q₁) ∷ ‵ (flft κ₂ q₂) ∷ ‵ (flft κ₃ q₃) ∷ ‵ (flft κ₄ q₄) ∷ ‵ (flft κ₅ q₅) ∷ ‵ (flft κ₆ q₆) ∷ ‵ (Own-list list-exit) ∷ ‵ (Own-rows rows-exit) ∷ ‵ (Own-keys keys-exit) ∷ ‵ (Own-store store-exit) ∷ ‵ (Own-page page) ∷ ‵ (Own-area area-exit) ∷ ‵ (Own-tickets tickets-exit) ∷ []) ∵ k-suffices ! _ (ends-at 𝓤 H A own.ended stayed (own.clauses 𝓤 H A at-mem run) W (((κ₀, (κ₁, (κ₂, (κ₃, (κ₄, (κ₅, (κ₆, tt))))))), (q₀, (q₁, (q₂, (q₃, (q₄, (q₅, (q₆, tt))))))), tt, the-args, the-vals), tt) w r (tt, (list-exit, (rows-exit, (keys-exit, (store-exit, (tt, (area-exit, (tickets-exit, tt)))))))) (tt, (len-list, (len-rows, (len-keys, (len-store, (tt, (len-area, (len-tickets, tt))))))))) $ k-says ! fact-of $ k-nothing ! $ k-move ! (7 ∷ 0 ∷ []) $ k-join ! $ k-move ! (6 ∷ 0 ∷ []) $ k-join ! $ k-move ! (5 ∷ 0 ∷ []) $ k-join ! $ k-move ! (4 ∷ 0 ∷ []) $ k-join ! $ k-move ! (3 ∷ 0 ∷ []) $ k-join ! $ k-move ! (2 ∷ 0 ∷ []) $ k-join ! $ k-move ! (1 ∷ 0 ∷ []) $ k-join ! $ k-frame ! $ k-nothing ! $ k-move ! (7 ∷ 0 ∷ []) $ k-fjoin ! $ k-move ! (6 ∷ 0 ∷ []) $ k-fjoin ! $ k-move ! (5 ∷ 0 ∷ []) $ k-fjoin ! $ k-move ! (4 ∷ 0 ∷ []) $ k-fjoin ! $ k-move ! (3 ∷ 0 ∷ []) $ k-fjoin ! $ k-move ! (2 ∷ 0 ∷ []) $ k-fjoin ! $ k-move ! (1 ∷ 0 ∷ []) $ k-fjoin ! $ k-owned ! Work-type.the-row (Is Work-type.the-row) (LL.makes Work-type.the-type Work-laws.the-plain 𝓤 H A) work _ is-work $ k-fjoin ! $ k-owned ! DigestStep-type.the-row (Is DigestStep-type.the-row) (LL.makes DigestStep-type.the-type DigestStep-laws.the-plain 𝓤 H A) r _ is $ k-move ! (1 ∷ 0 ∷ []) $ k-done !
+      qed W (‵ (flft κ₀ q₀) ∷ ‵ (flft κ₁ q₁) ∷ ‵ (flft κ₂ q₂) ∷ ‵ (flft κ₃ q₃) ∷ ‵ (flft κ₄ q₄) ∷ ‵ (flft κ₅ q₅) ∷ ‵ (flft κ₆ q₆) ∷ ‵ (finally Entry-type.the-row γ-list list-exit) ∷ ‵ (Own-rows rows-exit) ∷ ‵ (Own-keys keys-exit) ∷ ‵ (finally u8 γ-store store-exit) ∷ ‵ (Own-page page) ∷ ‵ (finally u8 γ-area area-exit) ∷ ‵ (finally u8 γ-tickets tickets-exit) ∷ []) ∵ k-suffices ! _ (ends-at 𝓤 H A own.ended stayed (own.clauses 𝓤 H A at-mem run) W (((κ₀, (κ₁, (κ₂, (κ₃, (κ₄, (κ₅, (κ₆, tt))))))), (q₀, (q₁, (q₂, (q₃, (q₄, (q₅, (q₆, tt))))))), tt, the-args, the-vals), tt) w r (tt, (list-exit, (rows-exit, (keys-exit, (store-exit, (tt, (area-exit, (tickets-exit, tt)))))))) (tt, (len-list, (len-rows, (len-keys, (len-store, (tt, (len-area, (len-tickets, tt))))))))) $ k-says ! fact-of $ k-nothing ! $ k-move ! (7 ∷ 0 ∷ []) $ k-join ! $ k-move ! (6 ∷ 0 ∷ []) $ k-join ! $ k-move ! (5 ∷ 0 ∷ []) $ k-join ! $ k-move ! (4 ∷ 0 ∷ []) $ k-join ! $ k-move ! (3 ∷ 0 ∷ []) $ k-join ! $ k-move ! (2 ∷ 0 ∷ []) $ k-join ! $ k-move ! (1 ∷ 0 ∷ []) $ k-join ! $ k-frame ! $ k-nothing ! $ k-move ! (7 ∷ 0 ∷ []) $ k-fjoin ! $ k-move ! (6 ∷ 0 ∷ []) $ k-fjoin ! $ k-move ! (5 ∷ 0 ∷ []) $ k-fjoin ! $ k-move ! (4 ∷ 0 ∷ []) $ k-fjoin ! $ k-move ! (3 ∷ 0 ∷ []) $ k-fjoin ! $ k-move ! (2 ∷ 0 ∷ []) $ k-fjoin ! $ k-move ! (1 ∷ 0 ∷ []) $ k-fjoin ! $ k-owned ! Work-type.the-row (Is Work-type.the-row) (LL.makes Work-type.the-type Work-laws.the-plain 𝓤 H A) work _ is-work $ k-fjoin ! $ k-owned ! DigestStep-type.the-row (Is DigestStep-type.the-row) (LL.makes DigestStep-type.the-type DigestStep-laws.the-plain 𝓤 H A) r _ is $ k-move ! (1 ∷ 0 ∷ []) $ k-done !
 
   module _ (𝓣 : Tables 𝓤 H) (known₁ : Triple 𝓤 (𝓣 .C #leaf-within·split-count) (Callee₁ 𝓤 H A at-mem run)) (known₂ : Triple 𝓤 (𝓣 .C #leaf-passed·begin-unused) (Callee₂ 𝓤 H A at-mem run)) (known₃ : Triple 𝓤 (𝓣 .C #leaf-entries·unused-entries) (Callee₃ 𝓤 H A at-mem run)) (known₄ : Triple 𝓤 (𝓣 .C #leaf-entries·split) (Callee₄ 𝓤 H A at-mem run)) (known₅ : Triple 𝓤 (𝓣 .C #leaf-within·digest-within) (Callee₅ 𝓤 H A at-mem run)) (known₆ : Triple 𝓤 (𝓣 .C #leaf-entries·gather) (Callee₆ 𝓤 H A at-mem run)) where
     walk : ent 𝓤 (onEntry 𝓤 H A own.signature (κ₀, (κ₁, (κ₂, (κ₃, (κ₄, (κ₅, (κ₆, tt))))))) (q₀, (q₁, (q₂, (q₃, (q₄, (q₅, (q₆, tt))))))) the-args the-vals) (WpFn 𝓤 H (𝓣 .C) (𝓣 .Λ) code.function ((mach-Work work) ∷ sv-list ∷ sv-rows ∷ sv-keys ∷ sv-store ∷ sv-page ∷ sv-area ∷ sv-tickets ∷ []) Post)
@@ -326,6 +326,7 @@ module _ {M : Type 1} (𝓤 : URA M) (H : Heap 𝓤) (A : Atoms 𝓤) (W : Given
         k-drop ! $
         k-assigns ! (k-of-opd ! (k-load ! (k-from ! (k-fld ! refl (k-stop !))) (k-look-in ! 86 (k-sub ! 1 refl (k-whole !))))) (k-from ! (k-stop !)) (k-init ! 66 refl (tt, record { fits = room-list .0 })) $
         use0 W (raw ((Callee₁ 𝓤 H A at-mem run) .pre (to₁ 𝓤 H A W at-mem run work (mach-Work work) (length list) (vint w64 (length list))))) (asks₁ 𝓤 H A W at-mem run work (mach-Work work) (length list) (vint w64 (length list)) is-work (refl, room-list .0)) $
+        stands W (_ ∷ _ ∷ _ ∷ _ ∷ _ ∷ _ ∷ _ ∷ _ ∷ _ ∷ _ ∷ _ ∷ _ ∷ _ ∷ _ ∷ _ ∷ []) (none ∷ has _ ∷ has _ ∷ has _ ∷ has _ ∷ has _ ∷ has _ ∷ has _ ∷ has _ ∷ none ∷ none ∷ none ∷ has _ ∷ []) $
         k-calls-at ! (fmOf 𝓤 H (W .laws) 𝓣) (Callee₁ 𝓤 H A at-mem run) known₁ (to₁ 𝓤 H A W at-mem run work (mach-Work work) (length list) (vint w64 (length list))) (k-and-then ! (k-load ! (k-from ! (k-stop !)) (k-look ! 89 refl)) (k-and-then ! (k-load ! (k-from ! (k-stop !)) (k-look ! 67 refl)) (k-no-more !))) (λ w₁.
         use1 W (later (k-some (λ (r₁ : ℕ). (‵ ftrue ⊛ ‵ (usize .own r₁ (w₁ ∷ []))) ⊛ raw (ensured 𝓤 H A callee₁.ended (callee₁.clauses 𝓤 H A at-mem run) tt (args₁ 𝓤 H A W at-mem run work (mach-Work work) (length list) (vint w64 (length list))) tt r₁)))) (id⊢ 𝓤 _) $ k-await ! tt $ k-pick ! (λ r₁.
         k-split ! $ k-move ! (1 ∷ []) $
@@ -336,10 +337,10 @@ module _ {M : Type 1} (𝓤 : URA M) (H : Heap 𝓤) (A : Atoms 𝓤) (W : Given
         k-land ! (k-from ! (k-stop !)) (k-init ! 74 refl (uint-lawful 𝓤 H A W w64 .typed r₁ _ is₁ .0)) $
         k-drop ! $
         k-drop ! $
-        stands W (_ ∷ _ ∷ _ ∷ _ ∷ _ ∷ _ ∷ _ ∷ _ ∷ _ ∷ _ ∷ _ ∷ _ ∷ _ ∷ _ ∷ []) (none ∷ has _ ∷ has _ ∷ has _ ∷ has _ ∷ has _ ∷ has _ ∷ has _ ∷ has _ ∷ has _ ∷ none ∷ none ∷ has _ ∷ []) $
         k-assigns ! (k-addr ! (k-from ! (k-fld ! refl (k-hop ! (k-look-in ! 86 (k-sub ! 0 refl (k-whole !))) (k-stop !))))) (k-from ! (k-stop !)) (k-init ! 64 refl (tt, tt)) $
         k-assigns ! (k-agg ! (k-and-then ! (k-load ! (k-from ! (k-stop !)) (k-look ! 64 refl)) (k-and-then ! (k-load ! (k-from ! (k-fld ! refl (k-stop !))) (k-look-in ! 86 (k-sub ! 1 refl (k-whole !)))) (k-no-more !)))) (k-from ! (k-stop !)) (k-init ! 62 refl (tt, (tt, (record { fits = room-list .0 }, tt)))) $
         use0 W (raw ((Callee₂ 𝓤 H A at-mem run) .pre (to₂ 𝓤 H A W at-mem run r₁ w₁))) (asks₂ 𝓤 H A W at-mem run r₁ w₁ is₁) $
+        stands W (_ ∷ _ ∷ _ ∷ _ ∷ _ ∷ _ ∷ _ ∷ _ ∷ _ ∷ _ ∷ _ ∷ _ ∷ _ ∷ _ ∷ _ ∷ []) (none ∷ has _ ∷ has _ ∷ has _ ∷ has _ ∷ has _ ∷ has _ ∷ has _ ∷ has _ ∷ has _ ∷ none ∷ none ∷ has _ ∷ has _ ∷ has _ ∷ []) $
         k-calls-at ! (fmOf 𝓤 H (W .laws) 𝓣) (Callee₂ 𝓤 H A at-mem run) known₂ (to₂ 𝓤 H A W at-mem run r₁ w₁) (k-and-then ! (k-load ! (k-from ! (k-stop !)) (k-look ! 73 refl)) (k-no-more !)) (λ w₂.
         use1 W (later (k-some (λ (r₂ : Unused). (‵ ftrue ⊛ ‵ (Unused-type.the-row .own r₂ (w₂ ∷ []))) ⊛ raw (ensured 𝓤 H A callee₂.ended (callee₂.clauses 𝓤 H A at-mem run) tt (args₂ 𝓤 H A W at-mem run r₁ w₁) tt r₂)))) (id⊢ 𝓤 _) $ k-await ! tt $ k-pick ! (λ r₂.
         k-split ! $ k-move ! (1 ∷ []) $
@@ -350,12 +351,12 @@ module _ {M : Type 1} (𝓤 : URA M) (H : Heap 𝓤) (A : Atoms 𝓤) (W : Given
         k-land ! (k-from ! (k-stop !)) (k-init ! 62 refl (LL.lawful Unused-type.the-type Unused-laws.the-laws 𝓤 H A W .typed r₂ _ is₂ .0)) $
         k-drop ! $
         k-drop ! $
-        stands W (_ ∷ _ ∷ _ ∷ _ ∷ _ ∷ _ ∷ _ ∷ _ ∷ _ ∷ _ ∷ _ ∷ _ ∷ _ ∷ _ ∷ []) (none ∷ has _ ∷ has _ ∷ has _ ∷ has _ ∷ has _ ∷ has _ ∷ has _ ∷ has _ ∷ has _ ∷ none ∷ none ∷ has _ ∷ has _ ∷ has _ ∷ has _ ∷ []) $
         k-lft-new ! tt (λ ν-list₃.
         k-move ! (7 ∷ 14 ∷ []) $
         use2 W (later (k-some (λ (δ : GName). ‵ (ShrSlice (named 0) (ν-list₃ ∷ []) Entry-type.the-row .own (record { ptr = (b-list, o-list); name = δ; now = list }) (sv-list ∷ [])) ⊛ ‵ (LentShared Entry-type.the-row κ₀ (ν-list₃ ∷ []) q₀ γ-list b-list o-list list)))) (shares-again-at Entry-type.the-row κ₀ (ν-list₃ ∷ []) q₀ γ-list b-list o-list 𝓤 H A W (named 0) (named 0) list (length list) refl) $ k-await ! tt $ k-pick ! (λ δ-list₃. k-split ! $
         k-move ! (2 ∷ 0 ∷ []) $
         k-group ! 2 $ use1 W (raw ((Callee₃ 𝓤 H A at-mem run) .pre (to₃ 𝓤 H A W at-mem run (ν-list₃ ∷ []) fullShare b-list o-list δ-list₃ list (length list) r₂ w₂))) (asks₃ 𝓤 H A W at-mem run (ν-list₃ ∷ []) fullShare b-list o-list δ-list₃ list (length list) r₂ w₂ is₂) $
+        stands W (_ ∷ _ ∷ _ ∷ _ ∷ _ ∷ _ ∷ _ ∷ _ ∷ _ ∷ _ ∷ _ ∷ _ ∷ _ ∷ _ ∷ []) (none ∷ has _ ∷ has _ ∷ has _ ∷ has _ ∷ has _ ∷ has _ ∷ has _ ∷ has _ ∷ has _ ∷ none ∷ none ∷ has _ ∷ has _ ∷ has _ ∷ has _ ∷ []) $
         k-calls-at ! (fmOf 𝓤 H (W .laws) 𝓣) (Callee₃ 𝓤 H A at-mem run) known₃ (to₃ 𝓤 H A W at-mem run (ν-list₃ ∷ []) fullShare b-list o-list δ-list₃ list (length list) r₂ w₂) (k-and-then ! (k-load ! (k-from ! (k-stop !)) (k-look ! 62 refl)) (k-and-then ! (k-load ! (k-from ! (k-stop !)) (k-look ! 60 refl)) (k-no-more !))) (λ w₃.
         use1 W (later (k-some (λ (r₃ : Unused). ((‵ (flft (ν-list₃ ∷ []) fullShare) ⊛ ‵ ftrue) ⊛ ‵ (Unused-type.the-row .own r₃ (w₃ ∷ []))) ⊛ raw (ensured 𝓤 H A callee₃.ended (callee₃.clauses 𝓤 H A at-mem run) (ν-list₃ ∷ [], tt) (args₃ 𝓤 H A W at-mem run (ν-list₃ ∷ []) fullShare b-list o-list δ-list₃ list (length list) r₂ w₂) tt r₃)))) (id⊢ 𝓤 _) $ k-await ! tt $ k-pick ! (λ r₃.
         k-split ! $ k-move ! (1 ∷ []) $
@@ -369,7 +370,6 @@ module _ {M : Type 1} (𝓤 : URA M) (H : Heap 𝓤) (A : Atoms 𝓤) (W : Given
         k-drop ! $
         k-lft-end ! tt $
         use2 W (later (‵ (Own-list list) ⊛ ‵ (flft κ₀ q₀))) (shared-back-at Entry-type.the-row κ₀ (ν-list₃ ∷ []) q₀ γ-list b-list o-list 𝓤 H A W (named 0) (named 0) list (length list) refl room-list) $ k-await ! tt $ k-split ! $
-        stands W (_ ∷ _ ∷ _ ∷ _ ∷ _ ∷ _ ∷ _ ∷ _ ∷ _ ∷ _ ∷ _ ∷ _ ∷ _ ∷ _ ∷ []) (none ∷ has _ ∷ has _ ∷ has _ ∷ has _ ∷ has _ ∷ has _ ∷ has _ ∷ has _ ∷ has _ ∷ has _ ∷ none ∷ has _ ∷ has _ ∷ has _ ∷ has _ ∷ []) $
         k-assigns ! (k-addr ! (k-from ! (k-fld ! refl (k-hop ! (k-look-in ! 86 (k-sub ! 0 refl (k-whole !))) (k-stop !))))) (k-from ! (k-stop !)) (k-init ! 56 refl (tt, tt)) $
         k-assigns ! (k-agg ! (k-and-then ! (k-load ! (k-from ! (k-stop !)) (k-look ! 56 refl)) (k-and-then ! (k-load ! (k-from ! (k-fld ! refl (k-stop !))) (k-look-in ! 86 (k-sub ! 1 refl (k-whole !)))) (k-no-more !)))) (k-from ! (k-stop !)) (k-init ! 54 refl (tt, (tt, (record { fits = room-list .0 }, tt)))) $
         k-assigns ! (k-addr ! (k-from ! (k-fld ! refl (k-hop ! (k-look-in ! 84 (k-sub ! 0 refl (k-whole !))) (k-stop !))))) (k-from ! (k-stop !)) (k-init ! 52 refl (tt, tt)) $
@@ -387,6 +387,7 @@ module _ {M : Type 1} (𝓤 : URA M) (H : Heap 𝓤) (A : Atoms 𝓤) (W : Given
         use2 W (later (k-some (λ (δ : GName). ‵ (MutSlice (named 0) (ν-keys₄ ∷ []) (Array u8 32) .own (record { ptr = (b-keys, o-keys); name = δ; now = keys }) (sv-keys ∷ [])) ⊛ ‵ (LentAgain (Array u8 32) κ₂ (ν-keys₄ ∷ []) q₂ γ-keys b-keys o-keys δ keys)))) (lends-again-at (Array u8 32) κ₂ (ν-keys₄ ∷ []) q₂ γ-keys b-keys o-keys 𝓤 H A W (named 2) (named 0) keys (length keys) refl) $ k-await ! tt $ k-pick ! (λ δ-keys₄. k-split ! $
         k-move ! (8 ∷ 5 ∷ 2 ∷ 6 ∷ 3 ∷ 0 ∷ []) $
         k-group ! 6 $ use1 W (raw ((Callee₄ 𝓤 H A at-mem run) .pre (to₄ 𝓤 H A W at-mem run (ν-list₄ ∷ []) fullShare (ν-rows₄ ∷ []) fullShare (ν-keys₄ ∷ []) fullShare b-list o-list δ-list₄ list (length list) b-rows o-rows δ-rows₄ rows (length rows) b-keys o-keys δ-keys₄ keys (length keys) r₁ w₁))) (asks₄ 𝓤 H A W at-mem run (ν-list₄ ∷ []) fullShare (ν-rows₄ ∷ []) fullShare (ν-keys₄ ∷ []) fullShare b-list o-list δ-list₄ list (length list) b-rows o-rows δ-rows₄ rows (length rows) b-keys o-keys δ-keys₄ keys (length keys) r₁ w₁ is₁ ((f₁ .1, omega (arith, f₁ .2, req .0), omega (arith, f₁ .2, req .1)))) $
+        stands W (_ ∷ _ ∷ _ ∷ _ ∷ _ ∷ _ ∷ _ ∷ _ ∷ _ ∷ _ ∷ _ ∷ _ ∷ []) (none ∷ has _ ∷ has _ ∷ has _ ∷ has _ ∷ has _ ∷ has _ ∷ has _ ∷ has _ ∷ has _ ∷ has _ ∷ none ∷ has _ ∷ has _ ∷ has _ ∷ has _ ∷ none ∷ has _ ∷ has _ ∷ has _ ∷ has _ ∷ has _ ∷ has _ ∷ []) $
         k-calls-at ! (fmOf 𝓤 H (W .laws) 𝓣) (Callee₄ 𝓤 H A at-mem run) known₄ (to₄ 𝓤 H A W at-mem run (ν-list₄ ∷ []) fullShare (ν-rows₄ ∷ []) fullShare (ν-keys₄ ∷ []) fullShare b-list o-list δ-list₄ list (length list) b-rows o-rows δ-rows₄ rows (length rows) b-keys o-keys δ-keys₄ keys (length keys) r₁ w₁) (k-and-then ! (k-load ! (k-from ! (k-stop !)) (k-look ! 52 refl)) (k-and-then ! (k-load ! (k-from ! (k-stop !)) (k-look ! 48 refl)) (k-and-then ! (k-load ! (k-from ! (k-stop !)) (k-look ! 44 refl)) (k-and-then ! (k-load ! (k-from ! (k-stop !)) (k-look ! 70 refl)) (k-no-more !))))) (λ w₄.
         use1 W (later (k-some (λ (r₄ : Unit {0}). ((‵ (flft (ν-list₄ ∷ []) fullShare) ⊛ ‵ (flft (ν-rows₄ ∷ []) fullShare) ⊛ ‵ (flft (ν-keys₄ ∷ []) fullShare) ⊛ ‵ ftrue) ⊛ ‵ (Nothing .own r₄ (w₄ ∷ []))) ⊛ raw (ensured 𝓤 H A callee₄.ended (callee₄.clauses 𝓤 H A at-mem run) (ν-list₄ ∷ [], (ν-rows₄ ∷ [], (ν-keys₄ ∷ [], tt))) (args₄ 𝓤 H A W at-mem run (ν-list₄ ∷ []) fullShare (ν-rows₄ ∷ []) fullShare (ν-keys₄ ∷ []) fullShare b-list o-list δ-list₄ list (length list) b-rows o-rows δ-rows₄ rows (length rows) b-keys o-keys δ-keys₄ keys (length keys) r₁ w₁) tt r₄)))) (id⊢ 𝓤 _) $ k-await ! tt $ k-pick ! (λ r₄.
         k-split ! $ k-move ! (1 ∷ []) $
@@ -418,7 +419,6 @@ module _ {M : Type 1} (𝓤 : URA M) (H : Heap 𝓤) (A : Atoms 𝓤) (W : Given
         k-move ! (0 ∷ 6 ∷ 5 ∷ []) $
         use3 W (later (‵ (Own-keys (zs₄ .1 .1 .0)) ⊛ ‵ (flft κ₂ q₂))) (comes-back-at (Array u8 32) κ₂ (ν-keys₄ ∷ []) q₂ γ-keys b-keys o-keys 𝓤 H A W (named 2) (named 0) keys (length keys) refl δ-keys₄ (zs₄ .1 .1 .0) room-keys len-keys₄) $ k-await ! tt $ k-split ! $
         let from-list : SplitFrom work list rows-exit₄ keys-exit₄ r₃ = record { rows₀ = rows; keys₀ = keys; rows-are = f₄ .0 ∙ ap (λ (z : ℕ). overwrite (map rowOf (take z list)) rows) (f₁ .0); keys-are = f₄ .1 ∙ ap (λ (z : ℕ). overwrite (map (λ (e : Entry). e .key) (take z list)) keys) (f₁ .0); looked = f₃ ∙ ap (λ (y : Unused). unusedOver y list) (f₂ ∙ ap unusedFrom (f₁ .0)) } in
-        stands W (_ ∷ _ ∷ _ ∷ _ ∷ _ ∷ _ ∷ _ ∷ _ ∷ _ ∷ _ ∷ _ ∷ _ ∷ _ ∷ _ ∷ []) (none ∷ has _ ∷ has _ ∷ has _ ∷ has _ ∷ has _ ∷ has _ ∷ has _ ∷ has _ ∷ has _ ∷ has _ ∷ none ∷ has _ ∷ has _ ∷ has _ ∷ has _ ∷ has _ ∷ has _ ∷ has _ ∷ has _ ∷ has _ ∷ has _ ∷ has _ ∷ []) $
         k-assigns ! (k-addr ! (k-from ! (k-fld ! refl (k-hop ! (k-look-in ! 84 (k-sub ! 0 refl (k-whole !))) (k-stop !))))) (k-from ! (k-stop !)) (k-init ! 44 refl (tt, tt)) $
         k-assigns ! (k-agg ! (k-and-then ! (k-load ! (k-from ! (k-stop !)) (k-look ! 44 refl)) (k-and-then ! (k-load ! (k-from ! (k-fld ! refl (k-stop !))) (k-look-in ! 84 (k-sub ! 1 refl (k-whole !)))) (k-no-more !)))) (k-from ! (k-stop !)) (k-init ! 42 refl (tt, (tt, (record { fits = room-rows .0 }, tt)))) $
         k-assigns ! (k-addr ! (k-from ! (k-fld ! refl (k-hop ! (k-look-in ! 82 (k-sub ! 0 refl (k-whole !))) (k-stop !))))) (k-from ! (k-stop !)) (k-init ! 40 refl (tt, tt)) $
@@ -436,23 +436,15 @@ module _ {M : Type 1} (𝓤 : URA M) (H : Heap 𝓤) (A : Atoms 𝓤) (W : Given
         k-lft-new ! tt (λ ν-keys₅.
         k-move ! (4 ∷ 5 ∷ []) $
         use2 W (later (k-some (λ (δ : GName). ‵ (MutSlice (named 0) (ν-keys₅ ∷ []) (Array u8 32) .own (record { ptr = (b-keys, o-keys); name = δ; now = ((zs₄ .1 .1 .0)) }) (sv-keys ∷ [])) ⊛ ‵ (LentAgain (Array u8 32) κ₂ (ν-keys₅ ∷ []) q₂ γ-keys b-keys o-keys δ ((zs₄ .1 .1 .0)))))) (lends-again-at (Array u8 32) κ₂ (ν-keys₅ ∷ []) q₂ γ-keys b-keys o-keys 𝓤 H A W (named 2) (named 0) ((zs₄ .1 .1 .0)) (length keys) len-keys₄) $ k-await ! tt $ k-pick ! (λ δ-keys₅. k-split ! $
-        k-lft-new ! tt (λ ν-store₅.
-        k-move ! (12 ∷ 16 ∷ []) $
-        use2 W (later (k-some (λ (δ : GName). ‵ (MutSlice (named 0) (ν-store₅ ∷ []) u8 .own (record { ptr = (b-store, o-store); name = δ; now = store }) (sv-store ∷ [])) ⊛ ‵ (LentAgain u8 κ₃ (ν-store₅ ∷ []) q₃ γ-store b-store o-store δ store)))) (lends-again-at u8 κ₃ (ν-store₅ ∷ []) q₃ γ-store b-store o-store 𝓤 H A W (named 3) (named 0) store (length store) refl) $ k-await ! tt $ k-pick ! (λ δ-store₅. k-split ! $
-        k-move ! (13 ∷ []) $
+        k-move ! (10 ∷ []) $
         use1 W (‵ (Own-page page) ⊛ ‵ (Own-page page)) (shr-slice-copy 𝓤 H A W (named 4) κ₄ u8 .twice (ref-page page) (sv-page ∷ [])) $ k-split ! $
-        k-lft-new ! tt (λ ν-area₅.
-        k-move ! (15 ∷ 17 ∷ []) $
-        use2 W (later (k-some (λ (δ : GName). ‵ (MutSlice (named 0) (ν-area₅ ∷ []) u8 .own (record { ptr = (b-area, o-area); name = δ; now = area }) (sv-area ∷ [])) ⊛ ‵ (LentAgain u8 κ₅ (ν-area₅ ∷ []) q₅ γ-area b-area o-area δ area)))) (lends-again-at u8 κ₅ (ν-area₅ ∷ []) q₅ γ-area b-area o-area 𝓤 H A W (named 5) (named 0) area (length area) refl) $ k-await ! tt $ k-pick ! (λ δ-area₅. k-split ! $
-        k-lft-new ! tt (λ ν-tickets₅.
-        k-move ! (17 ∷ 18 ∷ []) $
-        use2 W (later (k-some (λ (δ : GName). ‵ (MutSlice (named 0) (ν-tickets₅ ∷ []) u8 .own (record { ptr = (b-tickets, o-tickets); name = δ; now = tickets }) (sv-tickets ∷ [])) ⊛ ‵ (LentAgain u8 κ₆ (ν-tickets₅ ∷ []) q₆ γ-tickets b-tickets o-tickets δ tickets)))) (lends-again-at u8 κ₆ (ν-tickets₅ ∷ []) q₆ γ-tickets b-tickets o-tickets 𝓤 H A W (named 6) (named 0) tickets (length tickets) refl) $ k-await ! tt $ k-pick ! (λ δ-tickets₅. k-split ! $
-        k-move ! (16 ∷ 13 ∷ 10 ∷ 19 ∷ 5 ∷ 2 ∷ 14 ∷ 11 ∷ 8 ∷ 6 ∷ 3 ∷ 0 ∷ []) $
-        k-group ! 12 $ use1 W (raw ((Callee₅ 𝓤 H A at-mem run) .pre (to₅ 𝓤 H A W at-mem run (ν-rows₅ ∷ []) fullShare (ν-keys₅ ∷ []) fullShare (ν-store₅ ∷ []) fullShare κ₄ q₄ (ν-area₅ ∷ []) fullShare (ν-tickets₅ ∷ []) fullShare work (mach-Work work) r₃ w₃ b-rows o-rows δ-rows₅ ((zs₄ .1 .0)) (length rows) b-keys o-keys δ-keys₅ ((zs₄ .1 .1 .0)) (length keys) (length list) (vint w64 (length list)) b-store o-store δ-store₅ store (length store) b-page o-page γ-page page (length page) b-area o-area δ-area₅ area (length area) b-tickets o-tickets δ-tickets₅ tickets (length tickets)))) (asks₅ 𝓤 H A W at-mem run (ν-rows₅ ∷ []) fullShare (ν-keys₅ ∷ []) fullShare (ν-store₅ ∷ []) fullShare κ₄ q₄ (ν-area₅ ∷ []) fullShare (ν-tickets₅ ∷ []) fullShare work (mach-Work work) r₃ w₃ b-rows o-rows δ-rows₅ ((zs₄ .1 .0)) (length rows) b-keys o-keys δ-keys₅ ((zs₄ .1 .1 .0)) (length keys) (length list) (vint w64 (length list)) b-store o-store δ-store₅ store (length store) b-page o-page γ-page page (length page) b-area o-area δ-area₅ area (length area) b-tickets o-tickets δ-tickets₅ tickets (length tickets) is-work is₃ (refl, room-list .0) ((record { list = list; long = refl; from = from-list }, omega (arith, req .0, len-rows₄), omega (arith, req .1, len-keys₄)))) $
-        k-calls-at ! (fmOf 𝓤 H (W .laws) 𝓣) (Callee₅ 𝓤 H A at-mem run) known₅ (to₅ 𝓤 H A W at-mem run (ν-rows₅ ∷ []) fullShare (ν-keys₅ ∷ []) fullShare (ν-store₅ ∷ []) fullShare κ₄ q₄ (ν-area₅ ∷ []) fullShare (ν-tickets₅ ∷ []) fullShare work (mach-Work work) r₃ w₃ b-rows o-rows δ-rows₅ ((zs₄ .1 .0)) (length rows) b-keys o-keys δ-keys₅ ((zs₄ .1 .1 .0)) (length keys) (length list) (vint w64 (length list)) b-store o-store δ-store₅ store (length store) b-page o-page γ-page page (length page) b-area o-area δ-area₅ area (length area) b-tickets o-tickets δ-tickets₅ tickets (length tickets)) (k-and-then ! (k-load ! (k-from ! (k-stop !)) (k-look ! 83 refl)) (k-and-then ! (k-load ! (k-from ! (k-stop !)) (k-look ! 65 refl)) (k-and-then ! (k-load ! (k-from ! (k-stop !)) (k-look ! 37 refl)) (k-and-then ! (k-load ! (k-from ! (k-stop !)) (k-look ! 33 refl)) (k-and-then ! (k-load ! (k-from ! (k-stop !)) (k-look ! 61 refl)) (k-and-then ! (k-load ! (k-from ! (k-stop !)) (k-look ! 29 refl)) (k-and-then ! (k-load ! (k-from ! (k-stop !)) (k-look ! 73 refl)) (k-and-then ! (k-load ! (k-from ! (k-stop !)) (k-look ! 25 refl)) (k-and-then ! (k-load ! (k-from ! (k-stop !)) (k-look ! 21 refl)) (k-no-more !)))))))))) (λ w₅.
-        use1 W (later (k-some (λ (r₅ : DigestStep). ((‵ (flft (ν-rows₅ ∷ []) fullShare) ⊛ ‵ (flft (ν-keys₅ ∷ []) fullShare) ⊛ ‵ (flft (ν-store₅ ∷ []) fullShare) ⊛ ‵ (flft κ₄ q₄) ⊛ ‵ (flft (ν-area₅ ∷ []) fullShare) ⊛ ‵ (flft (ν-tickets₅ ∷ []) fullShare) ⊛ ‵ ftrue) ⊛ ‵ (DigestStep-type.the-row .own r₅ (w₅ ∷ []))) ⊛ raw (ensured 𝓤 H A callee₅.ended (callee₅.clauses 𝓤 H A at-mem run) (ν-rows₅ ∷ [], (ν-keys₅ ∷ [], (ν-store₅ ∷ [], (κ₄, (ν-area₅ ∷ [], (ν-tickets₅ ∷ [], tt)))))) (args₅ 𝓤 H A W at-mem run (ν-rows₅ ∷ []) fullShare (ν-keys₅ ∷ []) fullShare (ν-store₅ ∷ []) fullShare κ₄ q₄ (ν-area₅ ∷ []) fullShare (ν-tickets₅ ∷ []) fullShare work (mach-Work work) r₃ w₃ b-rows o-rows δ-rows₅ ((zs₄ .1 .0)) (length rows) b-keys o-keys δ-keys₅ ((zs₄ .1 .1 .0)) (length keys) (length list) (vint w64 (length list)) b-store o-store δ-store₅ store (length store) b-page o-page γ-page page (length page) b-area o-area δ-area₅ area (length area) b-tickets o-tickets δ-tickets₅ tickets (length tickets)) tt r₅)))) (id⊢ 𝓤 _) $ k-await ! tt $ k-pick ! (λ r₅.
+        k-move ! (7 ∷ 4 ∷ 16 ∷ 15 ∷ 14 ∷ 13 ∷ 5 ∷ 2 ∷ 12 ∷ 0 ∷ 11 ∷ 10 ∷ []) $
+        k-group ! 12 $ use1 W (raw ((Callee₅ 𝓤 H A at-mem run) .pre (to₅ 𝓤 H A W at-mem run (ν-rows₅ ∷ []) fullShare (ν-keys₅ ∷ []) fullShare κ₃ q₃ κ₄ q₄ κ₅ q₅ κ₆ q₆ work (mach-Work work) r₃ w₃ b-rows o-rows δ-rows₅ ((zs₄ .1 .0)) (length rows) b-keys o-keys δ-keys₅ ((zs₄ .1 .1 .0)) (length keys) (length list) (vint w64 (length list)) b-store o-store γ-store store (length store) b-page o-page γ-page page (length page) b-area o-area γ-area area (length area) b-tickets o-tickets γ-tickets tickets (length tickets)))) (asks₅ 𝓤 H A W at-mem run (ν-rows₅ ∷ []) fullShare (ν-keys₅ ∷ []) fullShare κ₃ q₃ κ₄ q₄ κ₅ q₅ κ₆ q₆ work (mach-Work work) r₃ w₃ b-rows o-rows δ-rows₅ ((zs₄ .1 .0)) (length rows) b-keys o-keys δ-keys₅ ((zs₄ .1 .1 .0)) (length keys) (length list) (vint w64 (length list)) b-store o-store γ-store store (length store) b-page o-page γ-page page (length page) b-area o-area γ-area area (length area) b-tickets o-tickets γ-tickets tickets (length tickets) is-work is₃ (refl, room-list .0) ((record { list = list; long = refl; from = from-list }, omega (arith, req .0, len-rows₄), omega (arith, req .1, len-keys₄)))) $
+        stands W (_ ∷ _ ∷ _ ∷ _ ∷ _ ∷ _ ∷ []) (none ∷ has _ ∷ has _ ∷ has _ ∷ has _ ∷ has _ ∷ has _ ∷ has _ ∷ has _ ∷ has _ ∷ has _ ∷ none ∷ has _ ∷ has _ ∷ has _ ∷ has _ ∷ has _ ∷ has _ ∷ has _ ∷ has _ ∷ has _ ∷ has _ ∷ has _ ∷ has _ ∷ has _ ∷ has _ ∷ has _ ∷ has _ ∷ has _ ∷ has _ ∷ has _ ∷ has _ ∷ has _ ∷ []) $
+        k-calls-at ! (fmOf 𝓤 H (W .laws) 𝓣) (Callee₅ 𝓤 H A at-mem run) known₅ (to₅ 𝓤 H A W at-mem run (ν-rows₅ ∷ []) fullShare (ν-keys₅ ∷ []) fullShare κ₃ q₃ κ₄ q₄ κ₅ q₅ κ₆ q₆ work (mach-Work work) r₃ w₃ b-rows o-rows δ-rows₅ ((zs₄ .1 .0)) (length rows) b-keys o-keys δ-keys₅ ((zs₄ .1 .1 .0)) (length keys) (length list) (vint w64 (length list)) b-store o-store γ-store store (length store) b-page o-page γ-page page (length page) b-area o-area γ-area area (length area) b-tickets o-tickets γ-tickets tickets (length tickets)) (k-and-then ! (k-load ! (k-from ! (k-stop !)) (k-look ! 80 refl)) (k-and-then ! (k-load ! (k-from ! (k-stop !)) (k-look ! 62 refl)) (k-and-then ! (k-load ! (k-from ! (k-stop !)) (k-look ! 34 refl)) (k-and-then ! (k-load ! (k-from ! (k-stop !)) (k-look ! 30 refl)) (k-and-then ! (k-load ! (k-from ! (k-stop !)) (k-look ! 58 refl)) (k-and-then ! (k-load ! (k-from ! (k-stop !)) (k-look ! 26 refl)) (k-and-then ! (k-load ! (k-from ! (k-stop !)) (k-look ! 70 refl)) (k-and-then ! (k-load ! (k-from ! (k-stop !)) (k-look ! 22 refl)) (k-and-then ! (k-load ! (k-from ! (k-stop !)) (k-look ! 18 refl)) (k-no-more !)))))))))) (λ w₅.
+        use1 W (later (k-some (λ (r₅ : DigestStep). ((‵ (flft (ν-rows₅ ∷ []) fullShare) ⊛ ‵ (flft (ν-keys₅ ∷ []) fullShare) ⊛ ‵ (flft κ₃ q₃) ⊛ ‵ (flft κ₄ q₄) ⊛ ‵ (flft κ₅ q₅) ⊛ ‵ (flft κ₆ q₆) ⊛ ‵ ftrue) ⊛ ‵ (DigestStep-type.the-row .own r₅ (w₅ ∷ []))) ⊛ raw (ensured 𝓤 H A callee₅.ended (callee₅.clauses 𝓤 H A at-mem run) (ν-rows₅ ∷ [], (ν-keys₅ ∷ [], (κ₃, (κ₄, (κ₅, (κ₆, tt)))))) (args₅ 𝓤 H A W at-mem run (ν-rows₅ ∷ []) fullShare (ν-keys₅ ∷ []) fullShare κ₃ q₃ κ₄ q₄ κ₅ q₅ κ₆ q₆ work (mach-Work work) r₃ w₃ b-rows o-rows δ-rows₅ ((zs₄ .1 .0)) (length rows) b-keys o-keys δ-keys₅ ((zs₄ .1 .1 .0)) (length keys) (length list) (vint w64 (length list)) b-store o-store γ-store store (length store) b-page o-page γ-page page (length page) b-area o-area γ-area area (length area) b-tickets o-tickets γ-tickets tickets (length tickets)) tt r₅)))) (id⊢ 𝓤 _) $ k-await ! tt $ k-pick ! (λ r₅.
         k-split ! $ k-move ! (1 ∷ []) $
-        use1 W (k-some (λ (us : Unit {0} × (Unit {0} × (List (List ℕ) × (List (List ℕ) × (Unit {0} × (List ℕ × (Unit {0} × (List ℕ × (List ℕ × Unit {0}))))))))). ‵ (lasts callee₅.ended (ν-rows₅ ∷ [], (ν-keys₅ ∷ [], (ν-store₅ ∷ [], (κ₄, (ν-area₅ ∷ [], (ν-tickets₅ ∷ [], tt)))))) (args₅ 𝓤 H A W at-mem run (ν-rows₅ ∷ []) fullShare (ν-keys₅ ∷ []) fullShare (ν-store₅ ∷ []) fullShare κ₄ q₄ (ν-area₅ ∷ []) fullShare (ν-tickets₅ ∷ []) fullShare work (mach-Work work) r₃ w₃ b-rows o-rows δ-rows₅ ((zs₄ .1 .0)) (length rows) b-keys o-keys δ-keys₅ ((zs₄ .1 .1 .0)) (length keys) (length list) (vint w64 (length list)) b-store o-store δ-store₅ store (length store) b-page o-page γ-page page (length page) b-area o-area δ-area₅ area (length area) b-tickets o-tickets δ-tickets₅ tickets (length tickets)) us) ⊛ raw (fact 𝓤 (Said₅ 𝓤 H A W at-mem run work r₃ (zs₄ .1 .0) (zs₄ .1 .1 .0) (length list) store page area tickets r₅ (us .1 .1 .0) (us .1 .1 .1 .0) (us .1 .1 .1 .1 .1 .0) (us .1 .1 .1 .1 .1 .1 .1 .0) (us .1 .1 .1 .1 .1 .1 .1 .1 .0))))) (id⊢ 𝓤 _) $ k-pick ! (λ zs₅. k-split ! $ k-move ! (1 ∷ []) $
+        use1 W (k-some (λ (us : Unit {0} × (Unit {0} × (List (List ℕ) × (List (List ℕ) × (Unit {0} × (List ℕ × (Unit {0} × (List ℕ × (List ℕ × Unit {0}))))))))). ‵ (lasts callee₅.ended (ν-rows₅ ∷ [], (ν-keys₅ ∷ [], (κ₃, (κ₄, (κ₅, (κ₆, tt)))))) (args₅ 𝓤 H A W at-mem run (ν-rows₅ ∷ []) fullShare (ν-keys₅ ∷ []) fullShare κ₃ q₃ κ₄ q₄ κ₅ q₅ κ₆ q₆ work (mach-Work work) r₃ w₃ b-rows o-rows δ-rows₅ ((zs₄ .1 .0)) (length rows) b-keys o-keys δ-keys₅ ((zs₄ .1 .1 .0)) (length keys) (length list) (vint w64 (length list)) b-store o-store γ-store store (length store) b-page o-page γ-page page (length page) b-area o-area γ-area area (length area) b-tickets o-tickets γ-tickets tickets (length tickets)) us) ⊛ raw (fact 𝓤 (Said₅ 𝓤 H A W at-mem run work r₃ (zs₄ .1 .0) (zs₄ .1 .1 .0) (length list) store page area tickets r₅ (us .1 .1 .0) (us .1 .1 .1 .0) (us .1 .1 .1 .1 .1 .0) (us .1 .1 .1 .1 .1 .1 .1 .0) (us .1 .1 .1 .1 .1 .1 .1 .1 .0))))) (id⊢ 𝓤 _) $ k-pick ! (λ zs₅. k-split ! $ k-move ! (1 ∷ []) $
         k-heard ! (Said₅ 𝓤 H A W at-mem run work r₃ (zs₄ .1 .0) (zs₄ .1 .1 .0) (length list) store page area tickets r₅ (zs₅ .1 .1 .0) (zs₅ .1 .1 .1 .0) (zs₅ .1 .1 .1 .1 .1 .0) (zs₅ .1 .1 .1 .1 .1 .1 .1 .0) (zs₅ .1 .1 .1 .1 .1 .1 .1 .1 .0)) (λ f₅.
         let rows-exit₅ = zs₅ .1 .1 .0 in let keys-exit₅ = zs₅ .1 .1 .1 .0 in let store-exit₅ = zs₅ .1 .1 .1 .1 .1 .0 in let area-exit₅ = zs₅ .1 .1 .1 .1 .1 .1 .1 .0 in let tickets-exit₅ = zs₅ .1 .1 .1 .1 .1 .1 .1 .1 .0 in
         k-fsplit ! $ k-drop ! $
@@ -468,8 +460,8 @@ module _ {M : Type 1} (𝓤 : URA M) (H : Heap 𝓤) (A : Atoms 𝓤) (W : Given
         k-move ! (5 ∷ []) $
         k-split ! $ k-move ! (1 ∷ []) $
         k-peeks ! DigestStep-type.the-row (Is DigestStep-type.the-row) (shows 𝓤 H A DigestStep-type.the-row) r₅ (w₅ ∷ []) (λ is₅.
-        k-land ! (k-from ! (k-stop !)) (k-init ! 69 refl (LL.lawful DigestStep-type.the-type DigestStep-laws.the-laws 𝓤 H A W .typed r₅ _ is₅ .0)) $
-        k-rewrite ! 69 (λ (u : Val). ‵ (fat fullShare (tyAt piece.locals 11) l₁₁ 0 u)) (ap only ((LL.tells DigestStep-type.the-type DigestStep-laws.the-laws) r₅ _ is₅)) refl $
+        k-land ! (k-from ! (k-stop !)) (k-init ! 66 refl (LL.lawful DigestStep-type.the-type DigestStep-laws.the-laws 𝓤 H A W .typed r₅ _ is₅ .0)) $
+        k-rewrite ! 66 (λ (u : Val). ‵ (fat fullShare (tyAt piece.locals 11) l₁₁ 0 u)) (ap only ((LL.tells DigestStep-type.the-type DigestStep-laws.the-laws) r₅ _ is₅)) refl $
         k-drop ! $
         k-split ! $ k-move ! (1 ∷ []) $
         k-split ! $ k-move ! (1 ∷ []) $
@@ -480,47 +472,32 @@ module _ {M : Type 1} (𝓤 : URA M) (H : Heap 𝓤) (A : Atoms 𝓤) (W : Given
         k-drop ! $
         k-move ! (5 ∷ []) $
         k-lft-end ! tt $
-        k-move ! (0 ∷ 16 ∷ 10 ∷ []) $
+        k-move ! (0 ∷ 13 ∷ 10 ∷ []) $
         use3 W (later (‵ (Own-rows (zs₅ .1 .1 .0)) ⊛ ‵ (flft κ₁ q₁))) (comes-back-at (Array usize 5) κ₁ (ν-rows₅ ∷ []) q₁ γ-rows b-rows o-rows 𝓤 H A W (named 1) (named 0) ((zs₄ .1 .0)) (length rows) len-rows₄ δ-rows₅ (zs₅ .1 .1 .0) room-rows (len-rows₅ ∙ len-rows₄)) $ k-await ! tt $ k-split ! $
         k-move ! (6 ∷ []) $
         k-lft-end ! tt $
-        k-move ! (0 ∷ 15 ∷ 10 ∷ []) $
-        use3 W (later (‵ (Own-keys (zs₅ .1 .1 .1 .0)) ⊛ ‵ (flft κ₂ q₂))) (comes-back-at (Array u8 32) κ₂ (ν-keys₅ ∷ []) q₂ γ-keys b-keys o-keys 𝓤 H A W (named 2) (named 0) ((zs₄ .1 .1 .0)) (length keys) len-keys₄ δ-keys₅ (zs₅ .1 .1 .1 .0) room-keys (len-keys₅ ∙ len-keys₄)) $ k-await ! tt $ k-split ! $
-        k-move ! (7 ∷ []) $
-        k-lft-end ! tt $
-        k-move ! (0 ∷ 14 ∷ 10 ∷ []) $
-        use3 W (later (‵ (Own-store (zs₅ .1 .1 .1 .1 .1 .0)) ⊛ ‵ (flft κ₃ q₃))) (comes-back-at u8 κ₃ (ν-store₅ ∷ []) q₃ γ-store b-store o-store 𝓤 H A W (named 3) (named 0) store (length store) refl δ-store₅ (zs₅ .1 .1 .1 .1 .1 .0) room-store len-store₅) $ k-await ! tt $ k-split ! $
-        k-move ! (7 ∷ []) $
-        k-lft-end ! tt $
         k-move ! (0 ∷ 12 ∷ 10 ∷ []) $
-        use3 W (later (‵ (Own-area (zs₅ .1 .1 .1 .1 .1 .1 .1 .0)) ⊛ ‵ (flft κ₅ q₅))) (comes-back-at u8 κ₅ (ν-area₅ ∷ []) q₅ γ-area b-area o-area 𝓤 H A W (named 5) (named 0) area (length area) refl δ-area₅ (zs₅ .1 .1 .1 .1 .1 .1 .1 .0) room-area len-area₅) $ k-await ! tt $ k-split ! $
-        k-move ! (8 ∷ []) $
-        k-lft-end ! tt $
-        k-move ! (0 ∷ 11 ∷ 10 ∷ []) $
-        use3 W (later (‵ (Own-tickets (zs₅ .1 .1 .1 .1 .1 .1 .1 .1 .0)) ⊛ ‵ (flft κ₆ q₆))) (comes-back-at u8 κ₆ (ν-tickets₅ ∷ []) q₆ γ-tickets b-tickets o-tickets 𝓤 H A W (named 6) (named 0) tickets (length tickets) refl δ-tickets₅ (zs₅ .1 .1 .1 .1 .1 .1 .1 .1 .0) room-tickets len-tickets₅) $ k-await ! tt $ k-split ! $
+        use3 W (later (‵ (Own-keys (zs₅ .1 .1 .1 .0)) ⊛ ‵ (flft κ₂ q₂))) (comes-back-at (Array u8 32) κ₂ (ν-keys₅ ∷ []) q₂ γ-keys b-keys o-keys 𝓤 H A W (named 2) (named 0) ((zs₄ .1 .1 .0)) (length keys) len-keys₄ δ-keys₅ (zs₅ .1 .1 .1 .0) room-keys (len-keys₅ ∙ len-keys₄)) $ k-await ! tt $ k-split ! $
         let said = f₅ list refl from-list in
-        stands W (_ ∷ _ ∷ _ ∷ _ ∷ _ ∷ _ ∷ _ ∷ _ ∷ _ ∷ _ ∷ _ ∷ _ ∷ _ ∷ _ ∷ []) (none ∷ has _ ∷ has _ ∷ has _ ∷ has _ ∷ has _ ∷ has _ ∷ has _ ∷ has _ ∷ has _ ∷ has _ ∷ has _ ∷ has _ ∷ has _ ∷ has _ ∷ has _ ∷ has _ ∷ has _ ∷ has _ ∷ has _ ∷ has _ ∷ has _ ∷ has _ ∷ has _ ∷ has _ ∷ has _ ∷ has _ ∷ has _ ∷ has _ ∷ has _ ∷ has _ ∷ has _ ∷ has _ ∷ []) $
         k-assigns ! (k-addr ! (k-from ! (k-fld ! refl (k-hop ! (k-look-in ! 86 (k-sub ! 0 refl (k-whole !))) (k-stop !))))) (k-from ! (k-stop !)) (k-init ! 24 refl (tt, tt)) $
         k-assigns ! (k-agg ! (k-and-then ! (k-load ! (k-from ! (k-stop !)) (k-look ! 24 refl)) (k-and-then ! (k-load ! (k-from ! (k-fld ! refl (k-stop !))) (k-look-in ! 86 (k-sub ! 1 refl (k-whole !)))) (k-no-more !)))) (k-from ! (k-stop !)) (k-init ! 22 refl (tt, (tt, (record { fits = room-list .0 }, tt)))) $
         k-assigns ! (k-addr ! (k-from ! (k-fld ! refl (k-hop ! (k-look-in ! 84 (k-sub ! 0 refl (k-whole !))) (k-stop !))))) (k-from ! (k-stop !)) (k-init ! 20 refl (tt, tt)) $
         k-assigns ! (k-agg ! (k-and-then ! (k-load ! (k-from ! (k-stop !)) (k-look ! 20 refl)) (k-and-then ! (k-load ! (k-from ! (k-fld ! refl (k-stop !))) (k-look-in ! 84 (k-sub ! 1 refl (k-whole !)))) (k-no-more !)))) (k-from ! (k-stop !)) (k-init ! 18 refl (tt, (tt, (record { fits = room-rows .0 }, tt)))) $
         k-assigns ! (k-addr ! (k-from ! (k-fld ! refl (k-hop ! (k-look-in ! 82 (k-sub ! 0 refl (k-whole !))) (k-stop !))))) (k-from ! (k-stop !)) (k-init ! 16 refl (tt, tt)) $
         k-assigns ! (k-agg ! (k-and-then ! (k-load ! (k-from ! (k-stop !)) (k-look ! 16 refl)) (k-and-then ! (k-load ! (k-from ! (k-fld ! refl (k-stop !))) (k-look-in ! 82 (k-sub ! 1 refl (k-whole !)))) (k-no-more !)))) (k-from ! (k-stop !)) (k-init ! 14 refl (tt, (tt, (record { fits = room-keys .0 }, tt)))) $
-        k-lft-new ! tt (λ ν-list₆.
-        k-move ! (13 ∷ 14 ∷ []) $
-        use2 W (later (k-some (λ (δ : GName). ‵ (MutSlice (named 0) (ν-list₆ ∷ []) Entry-type.the-row .own (record { ptr = (b-list, o-list); name = δ; now = list }) (sv-list ∷ [])) ⊛ ‵ (LentAgain Entry-type.the-row κ₀ (ν-list₆ ∷ []) q₀ γ-list b-list o-list δ list)))) (lends-again-at Entry-type.the-row κ₀ (ν-list₆ ∷ []) q₀ γ-list b-list o-list 𝓤 H A W (named 0) (named 0) list (length list) refl) $ k-await ! tt $ k-pick ! (λ δ-list₆. k-split ! $
         k-lft-new ! tt (λ ν-rows₆.
-        k-move ! (12 ∷ 13 ∷ []) $
+        k-move ! (3 ∷ 4 ∷ []) $
         use2 W (later (k-some (λ (δ : GName). ‵ (ShrSlice (named 0) (ν-rows₆ ∷ []) (Array usize 5) .own (record { ptr = (b-rows, o-rows); name = δ; now = ((zs₅ .1 .1 .0)) }) (sv-rows ∷ [])) ⊛ ‵ (LentShared (Array usize 5) κ₁ (ν-rows₆ ∷ []) q₁ γ-rows b-rows o-rows ((zs₅ .1 .1 .0)))))) (shares-again-at (Array usize 5) κ₁ (ν-rows₆ ∷ []) q₁ γ-rows b-rows o-rows 𝓤 H A W (named 1) (named 0) ((zs₅ .1 .1 .0)) (length rows) (len-rows₅ ∙ len-rows₄)) $ k-await ! tt $ k-pick ! (λ δ-rows₆. k-split ! $
         k-lft-new ! tt (λ ν-keys₆.
-        k-move ! (13 ∷ 14 ∷ []) $
+        k-move ! (4 ∷ 5 ∷ []) $
         use2 W (later (k-some (λ (δ : GName). ‵ (ShrSlice (named 0) (ν-keys₆ ∷ []) (Array u8 32) .own (record { ptr = (b-keys, o-keys); name = δ; now = ((zs₅ .1 .1 .1 .0)) }) (sv-keys ∷ [])) ⊛ ‵ (LentShared (Array u8 32) κ₂ (ν-keys₆ ∷ []) q₂ γ-keys b-keys o-keys ((zs₅ .1 .1 .1 .0)))))) (shares-again-at (Array u8 32) κ₂ (ν-keys₆ ∷ []) q₂ γ-keys b-keys o-keys 𝓤 H A W (named 2) (named 0) ((zs₅ .1 .1 .1 .0)) (length keys) (len-keys₅ ∙ len-keys₄)) $ k-await ! tt $ k-pick ! (λ δ-keys₆. k-split ! $
-        k-move ! (8 ∷ 5 ∷ 2 ∷ 6 ∷ 3 ∷ 0 ∷ []) $
-        k-group ! 6 $ use1 W (raw ((Callee₆ 𝓤 H A at-mem run) .pre (to₆ 𝓤 H A W at-mem run (ν-list₆ ∷ []) fullShare (ν-rows₆ ∷ []) fullShare (ν-keys₆ ∷ []) fullShare b-list o-list δ-list₆ list (length list) b-rows o-rows δ-rows₆ ((zs₅ .1 .1 .0)) (length rows) b-keys o-keys δ-keys₆ ((zs₅ .1 .1 .1 .0)) (length keys) (r₅ .count) (vint w64 ((r₅ .count)))))) (asks₆ 𝓤 H A W at-mem run (ν-list₆ ∷ []) fullShare (ν-rows₆ ∷ []) fullShare (ν-keys₆ ∷ []) fullShare b-list o-list δ-list₆ list (length list) b-rows o-rows δ-rows₆ ((zs₅ .1 .1 .0)) (length rows) b-keys o-keys δ-keys₆ ((zs₅ .1 .1 .1 .0)) (length keys) (r₅ .count) (vint w64 ((r₅ .count))) (LL.owed DigestStep-type.the-type DigestStep-laws.the-laws r₅ _ (subst (λ (u : Val). Is DigestStep-type.the-row r₅ (u ∷ [])) (ap only ((LL.tells DigestStep-type.the-type DigestStep-laws.the-laws) r₅ _ is₅)) is₅) .1 .1 .0) ((said .few, omega (arith, said .fewer, req .0, len-rows₄, len-rows₅), omega (arith, said .fewer, req .1, len-keys₄, len-keys₅)))) $
-        k-calls-at ! (fmOf 𝓤 H (W .laws) 𝓣) (Callee₆ 𝓤 H A at-mem run) known₆ (to₆ 𝓤 H A W at-mem run (ν-list₆ ∷ []) fullShare (ν-rows₆ ∷ []) fullShare (ν-keys₆ ∷ []) fullShare b-list o-list δ-list₆ list (length list) b-rows o-rows δ-rows₆ ((zs₅ .1 .1 .0)) (length rows) b-keys o-keys δ-keys₆ ((zs₅ .1 .1 .1 .0)) (length keys) (r₅ .count) (vint w64 ((r₅ .count)))) (k-and-then ! (k-load ! (k-from ! (k-stop !)) (k-look ! 20 refl)) (k-and-then ! (k-load ! (k-from ! (k-stop !)) (k-look ! 16 refl)) (k-and-then ! (k-load ! (k-from ! (k-stop !)) (k-look ! 12 refl)) (k-and-then ! (k-load ! (k-from ! (k-fld ! {d = 264} refl (k-stop !))) (k-look-in ! 66 (k-sub ! 2 {d = 264} refl (k-whole !)))) (k-no-more !))))) (λ w₆.
-        use1 W (later (k-some (λ (r₆ : Unit {0}). ((‵ (flft (ν-list₆ ∷ []) fullShare) ⊛ ‵ (flft (ν-rows₆ ∷ []) fullShare) ⊛ ‵ (flft (ν-keys₆ ∷ []) fullShare) ⊛ ‵ ftrue) ⊛ ‵ (Nothing .own r₆ (w₆ ∷ []))) ⊛ raw (ensured 𝓤 H A callee₆.ended (callee₆.clauses 𝓤 H A at-mem run) (ν-list₆ ∷ [], (ν-rows₆ ∷ [], (ν-keys₆ ∷ [], tt))) (args₆ 𝓤 H A W at-mem run (ν-list₆ ∷ []) fullShare (ν-rows₆ ∷ []) fullShare (ν-keys₆ ∷ []) fullShare b-list o-list δ-list₆ list (length list) b-rows o-rows δ-rows₆ ((zs₅ .1 .1 .0)) (length rows) b-keys o-keys δ-keys₆ ((zs₅ .1 .1 .1 .0)) (length keys) (r₅ .count) (vint w64 ((r₅ .count)))) tt r₆)))) (id⊢ 𝓤 _) $ k-await ! tt $ k-pick ! (λ r₆.
+        k-move ! (15 ∷ 5 ∷ 2 ∷ 14 ∷ 3 ∷ 0 ∷ []) $
+        k-group ! 6 $ use1 W (raw ((Callee₆ 𝓤 H A at-mem run) .pre (to₆ 𝓤 H A W at-mem run κ₀ q₀ (ν-rows₆ ∷ []) fullShare (ν-keys₆ ∷ []) fullShare b-list o-list γ-list list (length list) b-rows o-rows δ-rows₆ ((zs₅ .1 .1 .0)) (length rows) b-keys o-keys δ-keys₆ ((zs₅ .1 .1 .1 .0)) (length keys) (r₅ .count) (vint w64 ((r₅ .count)))))) (asks₆ 𝓤 H A W at-mem run κ₀ q₀ (ν-rows₆ ∷ []) fullShare (ν-keys₆ ∷ []) fullShare b-list o-list γ-list list (length list) b-rows o-rows δ-rows₆ ((zs₅ .1 .1 .0)) (length rows) b-keys o-keys δ-keys₆ ((zs₅ .1 .1 .1 .0)) (length keys) (r₅ .count) (vint w64 ((r₅ .count))) (LL.owed DigestStep-type.the-type DigestStep-laws.the-laws r₅ _ (subst (λ (u : Val). Is DigestStep-type.the-row r₅ (u ∷ [])) (ap only ((LL.tells DigestStep-type.the-type DigestStep-laws.the-laws) r₅ _ is₅)) is₅) .1 .1 .0) ((said .few, omega (arith, said .fewer, req .0, len-rows₄, len-rows₅), omega (arith, said .fewer, req .1, len-keys₄, len-keys₅)))) $
+        stands W (_ ∷ _ ∷ _ ∷ _ ∷ _ ∷ _ ∷ _ ∷ _ ∷ _ ∷ _ ∷ _ ∷ []) (none ∷ has _ ∷ has _ ∷ has _ ∷ has _ ∷ has _ ∷ has _ ∷ has _ ∷ has _ ∷ has _ ∷ has _ ∷ has _ ∷ has _ ∷ has _ ∷ has _ ∷ has _ ∷ has _ ∷ has _ ∷ has _ ∷ has _ ∷ has _ ∷ has _ ∷ has _ ∷ has _ ∷ has _ ∷ has _ ∷ has _ ∷ has _ ∷ has _ ∷ has _ ∷ has _ ∷ has _ ∷ has _ ∷ has _ ∷ has _ ∷ has _ ∷ has _ ∷ has _ ∷ has _ ∷ []) $
+        k-calls-at ! (fmOf 𝓤 H (W .laws) 𝓣) (Callee₆ 𝓤 H A at-mem run) known₆ (to₆ 𝓤 H A W at-mem run κ₀ q₀ (ν-rows₆ ∷ []) fullShare (ν-keys₆ ∷ []) fullShare b-list o-list γ-list list (length list) b-rows o-rows δ-rows₆ ((zs₅ .1 .1 .0)) (length rows) b-keys o-keys δ-keys₆ ((zs₅ .1 .1 .1 .0)) (length keys) (r₅ .count) (vint w64 ((r₅ .count)))) (k-and-then ! (k-load ! (k-from ! (k-stop !)) (k-look ! 19 refl)) (k-and-then ! (k-load ! (k-from ! (k-stop !)) (k-look ! 15 refl)) (k-and-then ! (k-load ! (k-from ! (k-stop !)) (k-look ! 11 refl)) (k-and-then ! (k-load ! (k-from ! (k-fld ! {d = 264} refl (k-stop !))) (k-look-in ! 65 (k-sub ! 2 {d = 264} refl (k-whole !)))) (k-no-more !))))) (λ w₆.
+        use1 W (later (k-some (λ (r₆ : Unit {0}). ((‵ (flft κ₀ q₀) ⊛ ‵ (flft (ν-rows₆ ∷ []) fullShare) ⊛ ‵ (flft (ν-keys₆ ∷ []) fullShare) ⊛ ‵ ftrue) ⊛ ‵ (Nothing .own r₆ (w₆ ∷ []))) ⊛ raw (ensured 𝓤 H A callee₆.ended (callee₆.clauses 𝓤 H A at-mem run) (κ₀, (ν-rows₆ ∷ [], (ν-keys₆ ∷ [], tt))) (args₆ 𝓤 H A W at-mem run κ₀ q₀ (ν-rows₆ ∷ []) fullShare (ν-keys₆ ∷ []) fullShare b-list o-list γ-list list (length list) b-rows o-rows δ-rows₆ ((zs₅ .1 .1 .0)) (length rows) b-keys o-keys δ-keys₆ ((zs₅ .1 .1 .1 .0)) (length keys) (r₅ .count) (vint w64 ((r₅ .count)))) tt r₆)))) (id⊢ 𝓤 _) $ k-await ! tt $ k-pick ! (λ r₆.
         k-split ! $ k-move ! (1 ∷ []) $
-        use1 W (k-some (λ (us : List Entry × (Unit {0} × (Unit {0} × (Unit {0} × Unit {0})))). ‵ (lasts callee₆.ended (ν-list₆ ∷ [], (ν-rows₆ ∷ [], (ν-keys₆ ∷ [], tt))) (args₆ 𝓤 H A W at-mem run (ν-list₆ ∷ []) fullShare (ν-rows₆ ∷ []) fullShare (ν-keys₆ ∷ []) fullShare b-list o-list δ-list₆ list (length list) b-rows o-rows δ-rows₆ ((zs₅ .1 .1 .0)) (length rows) b-keys o-keys δ-keys₆ ((zs₅ .1 .1 .1 .0)) (length keys) (r₅ .count) (vint w64 ((r₅ .count)))) us) ⊛ raw (fact 𝓤 (Said₆ 𝓤 H A W at-mem run list (zs₅ .1 .1 .0) (zs₅ .1 .1 .1 .0) (r₅ .count) r₆ (us .0))))) (id⊢ 𝓤 _) $ k-pick ! (λ zs₆. k-split ! $ k-move ! (1 ∷ []) $
+        use1 W (k-some (λ (us : List Entry × (Unit {0} × (Unit {0} × (Unit {0} × Unit {0})))). ‵ (lasts callee₆.ended (κ₀, (ν-rows₆ ∷ [], (ν-keys₆ ∷ [], tt))) (args₆ 𝓤 H A W at-mem run κ₀ q₀ (ν-rows₆ ∷ []) fullShare (ν-keys₆ ∷ []) fullShare b-list o-list γ-list list (length list) b-rows o-rows δ-rows₆ ((zs₅ .1 .1 .0)) (length rows) b-keys o-keys δ-keys₆ ((zs₅ .1 .1 .1 .0)) (length keys) (r₅ .count) (vint w64 ((r₅ .count)))) us) ⊛ raw (fact 𝓤 (Said₆ 𝓤 H A W at-mem run list (zs₅ .1 .1 .0) (zs₅ .1 .1 .1 .0) (r₅ .count) r₆ (us .0))))) (id⊢ 𝓤 _) $ k-pick ! (λ zs₆. k-split ! $ k-move ! (1 ∷ []) $
         k-heard ! (Said₆ 𝓤 H A W at-mem run list (zs₅ .1 .1 .0) (zs₅ .1 .1 .1 .0) (r₅ .count) r₆ (zs₆ .0)) (λ f₆.
         let list-exit₆ = zs₆ .0 in
         k-fsplit ! $ k-fsplit ! $ k-move ! (1 ∷ []) $ k-feqL ! (λ len-list₆. k-move ! (1 ∷ []) $
@@ -528,28 +505,23 @@ module _ {M : Type 1} (𝓤 : URA M) (H : Heap 𝓤) (A : Atoms 𝓤) (W : Given
         k-move ! (1 ∷ []) $
         k-split ! $ k-move ! (1 ∷ []) $
         k-feqL ! (λ is₆.
-        k-land ! (k-from ! (k-stop !)) (k-store ! 57 refl (subst (λ (u : Val). Holds (hasTy tyUnit u) × WT u) (sym (ap only is₆)) (tt, tt))) $
+        k-land ! (k-from ! (k-stop !)) (k-store ! 56 refl (subst (λ (u : Val). Holds (hasTy tyUnit u) × WT u) (sym (ap only is₆)) (tt, tt))) $
         k-split ! $ k-move ! (1 ∷ []) $
         k-split ! $ k-move ! (1 ∷ []) $
         k-split ! $ k-move ! (1 ∷ []) $
         k-drop ! $
-        k-move ! (2 ∷ []) $
-        k-lft-end ! tt $
-        k-move ! (0 ∷ 6 ∷ 3 ∷ []) $
-        use3 W (later (‵ (Own-list (zs₆ .0)) ⊛ ‵ (flft κ₀ q₀))) (comes-back-at Entry-type.the-row κ₀ (ν-list₆ ∷ []) q₀ γ-list b-list o-list 𝓤 H A W (named 0) (named 0) list (length list) refl δ-list₆ (zs₆ .0) room-list len-list₆) $ k-await ! tt $ k-split ! $
-        k-move ! (3 ∷ []) $
+        k-move ! (1 ∷ []) $
         k-lft-end ! tt $
         k-move ! (0 ∷ 5 ∷ []) $
         use2 W (later (‵ (Own-rows ((zs₅ .1 .1 .0))) ⊛ ‵ (flft κ₁ q₁))) (shared-back-at (Array usize 5) κ₁ (ν-rows₆ ∷ []) q₁ γ-rows b-rows o-rows 𝓤 H A W (named 1) (named 0) ((zs₅ .1 .1 .0)) (length rows) (len-rows₅ ∙ len-rows₄) room-rows) $ k-await ! tt $ k-split ! $
-        k-move ! (4 ∷ []) $
+        k-move ! (2 ∷ []) $
         k-lft-end ! tt $
         k-move ! (0 ∷ 5 ∷ []) $
         use2 W (later (‵ (Own-keys ((zs₅ .1 .1 .1 .0))) ⊛ ‵ (flft κ₂ q₂))) (shared-back-at (Array u8 32) κ₂ (ν-keys₆ ∷ []) q₂ γ-keys b-keys o-keys 𝓤 H A W (named 2) (named 0) ((zs₅ .1 .1 .1 .0)) (length keys) (len-keys₅ ∙ len-keys₄) room-keys) $ k-await ! tt $ k-split ! $
-        stands W (_ ∷ _ ∷ _ ∷ _ ∷ _ ∷ _ ∷ _ ∷ _ ∷ _ ∷ _ ∷ _ ∷ _ ∷ _ ∷ _ ∷ []) (none ∷ has _ ∷ has _ ∷ has _ ∷ has _ ∷ has _ ∷ has _ ∷ has _ ∷ has _ ∷ has _ ∷ has _ ∷ has _ ∷ has _ ∷ has _ ∷ has _ ∷ has _ ∷ has _ ∷ has _ ∷ has _ ∷ has _ ∷ has _ ∷ has _ ∷ has _ ∷ has _ ∷ has _ ∷ has _ ∷ has _ ∷ has _ ∷ has _ ∷ has _ ∷ has _ ∷ has _ ∷ has _ ∷ has _ ∷ has _ ∷ has _ ∷ has _ ∷ has _ ∷ has _ ∷ []) $
         k-assigns ! (k-of-opd ! (k-load ! (k-from ! (k-stop !)) (k-look ! 68 refl))) (k-from ! (k-stop !)) (k-init ! 90 refl (LL.lawful DigestStep-type.the-type DigestStep-laws.the-laws 𝓤 H A W .typed r₅ _ (subst (λ (u : Val). Is DigestStep-type.the-row r₅ (u ∷ [])) (ap only ((LL.tells DigestStep-type.the-type DigestStep-laws.the-laws) r₅ _ is₅)) is₅) .0)) $
         k-returns ! (k-look ! 90 refl) $ all-freed W (_ ∷ _ ∷ _ ∷ _ ∷ _ ∷ _ ∷ _ ∷ _ ∷ _ ∷ _ ∷ _ ∷ _ ∷ _ ∷ _ ∷ []) (has _ ∷ has _ ∷ has _ ∷ has _ ∷ has _ ∷ has _ ∷ has _ ∷ has _ ∷ has _ ∷ has _ ∷ has _ ∷ has _ ∷ has _ ∷ has _ ∷ has _ ∷ has _ ∷ has _ ∷ has _ ∷ has _ ∷ has _ ∷ has _ ∷ has _ ∷ has _ ∷ has _ ∷ has _ ∷ has _ ∷ has _ ∷ has _ ∷ has _ ∷ has _ ∷ has _ ∷ has _ ∷ has _ ∷ has _ ∷ has _ ∷ has _ ∷ has _ ∷ has _ ∷ has _ ∷ []) $
-        k-keep ! (5 ∷ 3 ∷ 1 ∷ 11 ∷ 12 ∷ 9 ∷ 7 ∷ 4 ∷ 2 ∷ 0 ∷ 10 ∷ 13 ∷ 8 ∷ 6 ∷ []) $
-        k-by ! (the-exit r₅ (mach-DigestStep r₅) (subst (λ (u : Val). Is DigestStep-type.the-row r₅ (u ∷ [])) (ap only ((LL.tells DigestStep-type.the-type DigestStep-laws.the-laws) r₅ _ is₅)) is₅) ((zs₆ .0)) len-list₆ ((zs₅ .1 .1 .0)) (len-rows₅ ∙ len-rows₄) ((zs₅ .1 .1 .1 .0)) (len-keys₅ ∙ len-keys₄) ((zs₅ .1 .1 .1 .1 .1 .0)) len-store₅ ((zs₅ .1 .1 .1 .1 .1 .1 .1 .0)) len-area₅ ((zs₅ .1 .1 .1 .1 .1 .1 .1 .1 .0)) len-tickets₅ ((said .reply-is, said .work-is, f₆ ∙ said .list-is, said .store-is, said .area-is, said .tickets-are)))))))))))))))))))))))))))))))))))))))))))))))))))))))))))))))))))))))))))))))))))))))))))))))))))))
+        k-keep ! (4 ∷ 3 ∷ 1 ∷ 9 ∷ 8 ∷ 7 ∷ 6 ∷ 5 ∷ 2 ∷ 0 ∷ 12 ∷ 13 ∷ 11 ∷ 10 ∷ []) $
+        k-by ! (the-exit r₅ (mach-DigestStep r₅) (subst (λ (u : Val). Is DigestStep-type.the-row r₅ (u ∷ [])) (ap only ((LL.tells DigestStep-type.the-type DigestStep-laws.the-laws) r₅ _ is₅)) is₅) ((zs₆ .0)) len-list₆ ((zs₅ .1 .1 .0)) (len-rows₅ ∙ len-rows₄) ((zs₅ .1 .1 .1 .0)) (len-keys₅ ∙ len-keys₄) ((zs₅ .1 .1 .1 .1 .1 .0)) len-store₅ ((zs₅ .1 .1 .1 .1 .1 .1 .1 .0)) len-area₅ ((zs₅ .1 .1 .1 .1 .1 .1 .1 .1 .0)) len-tickets₅ ((said .reply-is, said .work-is, f₆ ∙ said .list-is, said .store-is, said .area-is, said .tickets-are)))))))))))))))))))))))))))))))))))))))))))))))))))))))))))))))))))))))))))))))))))))))))))))
 
 module _ {M : Type 1} (𝓤 : URA M) (H : Heap 𝓤) (A : Atoms 𝓤) (W : Given 𝓤 H A) (mem : Memory → SProp 𝓤) (run : Routine → Fun 𝓤) (𝓣 : Tables 𝓤 H) (known₁ : Triple 𝓤 (𝓣 .C #leaf-within·split-count) (Callee₁ 𝓤 H A mem run)) (known₂ : Triple 𝓤 (𝓣 .C #leaf-passed·begin-unused) (Callee₂ 𝓤 H A mem run)) (known₃ : Triple 𝓤 (𝓣 .C #leaf-entries·unused-entries) (Callee₃ 𝓤 H A mem run)) (known₄ : Triple 𝓤 (𝓣 .C #leaf-entries·split) (Callee₄ 𝓤 H A mem run)) (known₅ : Triple 𝓤 (𝓣 .C #leaf-within·digest-within) (Callee₅ 𝓤 H A mem run)) (known₆ : Triple 𝓤 (𝓣 .C #leaf-entries·gather) (Callee₆ 𝓤 H A mem run)) where
   digest-in-walks : Walks 𝓤 H A own.ended stayed (WpFn 𝓤 H (𝓣 .C) (𝓣 .Λ) code.function) (own.clauses 𝓤 H A mem run)
@@ -558,7 +530,7 @@ module _ {M : Type 1} (𝓤 : URA M) (H : Heap 𝓤) (A : Atoms 𝓤) (W : Given
       (λ κs qs bounds a g are. needs 𝓤 ((roomNeeded (a .0) (length ((a .1 .0 .now))) ≤ length ((a .1 .1 .0 .now))) × (roomNeeded (a .0) (length ((a .1 .0 .now))) ≤ length ((a .1 .1 .1 .0 .now)))) _ (λ req. walk 𝓤 H A W mem run (κs .0) (κs .1 .0) (κs .1 .1 .0) (κs .1 .1 .1 .0) (κs .1 .1 .1 .1 .0) (κs .1 .1 .1 .1 .1 .0) (κs .1 .1 .1 .1 .1 .1 .0) (qs .0) (qs .1 .0) (qs .1 .1 .0) (qs .1 .1 .1 .0) (qs .1 .1 .1 .1 .0) (qs .1 .1 .1 .1 .1 .0) (qs .1 .1 .1 .1 .1 .1 .0) (a .0) (are .0) (a .1 .0 .ptr .0) (a .1 .0 .ptr .1) (a .1 .0 .name) (a .1 .0 .now) (are .1 .0 .0 .1) (a .1 .1 .0 .ptr .0) (a .1 .1 .0 .ptr .1) (a .1 .1 .0 .name) (a .1 .1 .0 .now) (are .1 .1 .0 .0 .1) (a .1 .1 .1 .0 .ptr .0) (a .1 .1 .1 .0 .ptr .1) (a .1 .1 .1 .0 .name) (a .1 .1 .1 .0 .now) (are .1 .1 .1 .0 .0 .1) (a .1 .1 .1 .1 .0 .ptr .0) (a .1 .1 .1 .1 .0 .ptr .1) (a .1 .1 .1 .1 .0 .name) (a .1 .1 .1 .1 .0 .now) (are .1 .1 .1 .1 .0 .0 .1) (a .1 .1 .1 .1 .1 .0 .ptr .0) (a .1 .1 .1 .1 .1 .0 .ptr .1) (a .1 .1 .1 .1 .1 .0 .name) (a .1 .1 .1 .1 .1 .0 .now) (are .1 .1 .1 .1 .1 .0 .0 .1) (a .1 .1 .1 .1 .1 .1 .0 .ptr .0) (a .1 .1 .1 .1 .1 .1 .0 .ptr .1) (a .1 .1 .1 .1 .1 .1 .0 .name) (a .1 .1 .1 .1 .1 .1 .0 .now) (are .1 .1 .1 .1 .1 .1 .0 .0 .1) (a .1 .1 .1 .1 .1 .1 .1 .0 .ptr .0) (a .1 .1 .1 .1 .1 .1 .1 .0 .ptr .1) (a .1 .1 .1 .1 .1 .1 .1 .0 .name) (a .1 .1 .1 .1 .1 .1 .1 .0 .now) (are .1 .1 .1 .1 .1 .1 .1 .0 .0 .1) req 𝓣 known₁ known₂ known₃ known₄ known₅ known₆))
 
   digest-in-meets : Meets 𝓤 H A own.signature (WpFn 𝓤 H (𝓣 .C) (𝓣 .Λ) code.function) (own.spec 𝓤 H A mem run)
-  digest-in-meets = walk-meets 𝓤 H A own.ended stayed W (goes-none 𝓤 H A W 7 (λ _. Work-type.the-row) yes (λ κs x f. refl), (goes-slice 𝓤 H A W 7 0 tt (plain (λ _. Entry-type.the-row)), (goes-slice 𝓤 H A W 7 1 tt (ArrayOf (plain (λ _. usize)) (λ _. tt) 5), (goes-slice 𝓤 H A W 7 2 tt (ArrayOf (plain (λ _. u8)) (λ _. tt) 32), (goes-slice 𝓤 H A W 7 3 tt (plain (λ _. u8)), (goes-none-slice 𝓤 H A W 7 (4 ∷ []) tt (plain (λ _. u8)) yes, (goes-slice 𝓤 H A W 7 5 tt (plain (λ _. u8)), (goes-slice 𝓤 H A W 7 6 tt (plain (λ _. u8)), tt)))))))) (own.clauses 𝓤 H A mem run)
+  digest-in-meets = walk-meets 𝓤 H A own.ended stayed W (goes-none 𝓤 H A W 7 (λ _. Work-type.the-row) yes (λ κs x f. refl), (goes-gave-slice 𝓤 H A W 7 0 tt (plain (λ _. Entry-type.the-row)), (goes-slice 𝓤 H A W 7 1 tt (ArrayOf (plain (λ _. usize)) (λ _. tt) 5), (goes-slice 𝓤 H A W 7 2 tt (ArrayOf (plain (λ _. u8)) (λ _. tt) 32), (goes-gave-slice 𝓤 H A W 7 3 tt (plain (λ _. u8)), (goes-none-slice 𝓤 H A W 7 (4 ∷ []) tt (plain (λ _. u8)) yes, (goes-gave-slice 𝓤 H A W 7 5 tt (plain (λ _. u8)), (goes-gave-slice 𝓤 H A W 7 6 tt (plain (λ _. u8)), tt)))))))) (own.clauses 𝓤 H A mem run)
       (WpFn 𝓤 H (𝓣 .C) (𝓣 .Λ) code.function) (WpFn-mono 𝓤 H (W .laws) 𝓣 code.function) digest-in-walks
 
 pub digest-in-spec : {M : Type 1} → stated.statement M

@@ -17,10 +17,9 @@ use prog.Wp.{Heap, WpFn, Tables}
 use ghost.Atoms.{Atoms}
 use contract.Monad.{Fun, fact}
 use contract.Running.{givenOf, tables, tablesOf}
-use types.Kit.{Given, ‵, raw, some as k-some, later, _⊛_, ⋆, _$_, _∵_, !, qed, use1, use2, use3, by as k-by, move as k-move, keep as k-keep, drop as k-drop, split as k-split, join as k-join, pick as k-pick, rewrite as k-rewrite, fsplit as k-fsplit, fjoin as k-fjoin, suffices as k-suffices, frame as k-frame, await as k-await, done as k-done, group as k-group, feqI as k-feqI, feqL as k-feqL, fsplit3 as k-fsplit3, fjoin3 as k-fjoin3}
+use types.Kit.{Given, ‵, raw, some as k-some, later, _⊛_, ⋆, _$_, _∵_, !, qed, use1, by as k-by, move as k-move, keep as k-keep, drop as k-drop, split as k-split, join as k-join, pick as k-pick, rewrite as k-rewrite, fsplit as k-fsplit, fjoin as k-fjoin, suffices as k-suffices, frame as k-frame, await as k-await, done as k-done, group as k-group, feqI as k-feqI, feqL as k-feqL, fsplit3 as k-fsplit3, fjoin3 as k-fjoin3}
 use types.Run.{look as k-look, init as k-init, look-raw as k-look-raw, store-raw as k-store-raw, stop as k-stop, hop as k-hop, fld as k-fld, from as k-from, load as k-load, addr as k-addr, of-opd as k-of-opd, and-then as k-and-then, no-more as k-no-more, assigns as k-assigns, land as k-land, returns as k-returns, enter as k-enter, alloc1 as k-alloc1, alloc0 as k-alloc0, params1 as k-params1, pass1 as k-pass1, pass0 as k-pass0}
 use types.Part.{agg as k-agg, whole as k-whole, sub as k-sub, look-in as k-look-in}
-use types.Tokens.{lft-new as k-lft-new, lft-end as k-lft-end}
 use sound.WpLaws.{fmOf, WpFn-mono}
 use denote.RattleType.{owns}
 use types.SemTy.{Body}
@@ -28,7 +27,7 @@ use denote.Memory.{mem as SemTy-of}
 use denote.Laws.{Is, shows}
 use denote.Builtin.{u8}
 use denote.Ref.{RefT, MutRef, ptr-vals, mut-tells}
-use denote.Slice.{sliceVal, MutSlice, ShrSlice, Room, slice-vals, mut-slice-tells, shr-slice-tells, shr-slice-copy}
+use denote.Slice.{finally, sliceVal, MutSlice, ShrSlice, Room, slice-vals, mut-slice-tells, shr-slice-tells, shr-slice-copy}
 use denote.Steps.{only, owned as k-owned, peeks as k-peeks, heard as k-heard, nothing as k-nothing, opens as k-opens, closes as k-closes}
 use denote.Struct.Steps.{spelt as k-spelt}
 use denote.Triple.Entry.{onEntry}
@@ -37,13 +36,13 @@ use denote.Triple.Statement.{Contract, Triple}
 use denote.Triple.Call.{calls-at as k-calls-at}
 use denote.Triple.Clauses.{ensured, lasts}
 use denote.Triple.Table.{entered, cited}
-use denote.Triple.Walked.{Stays, stay-none-slice, stay-slice, stay-ref, walkOf, goes-none-slice, goes-slice, goes-ref, Walks, ends-at, walked, walk-meets, says as k-says}
+use denote.Triple.Walked.{Stays, stay-none-slice, gave-slice, stay-ref, walkOf, goes-none-slice, goes-gave-slice, goes-ref, Walks, ends-at, walked, walk-meets, says as k-says}
 use denote.Exit.{yes}
 use denote.Signature.{plain}
 use Rattle.leaf_split.specs.Digests.{DigestSays}
 use denote.Struct.Laws as LL
 use Rattle.leaf_entries.proofs.Locals.{tyAt}
-use Rattle.leaf_entries.proofs.Freed.{all-freed, stands, cells}
+use Rattle.leaf_entries.proofs.Freed.{all-freed, stands, sinks, cells}
 use Rattle.leaf_entries.proofs.Order.{lt-or-ge}
 use Rattle.leaf_entries.proofs.Again.{LentAgain, lends-again-at, comes-back-at}
 use Rattle.leaf_entries.proofs.Shared.{LentShared, shares-again-at, shared-back-at}
@@ -82,7 +81,7 @@ abbrev mach-DigestStep : DigestStep → Val
 mach-DigestStep z = only (LL.vals DigestStep-type.the-type DigestStep-laws.the-laws z)
 
 abbrev stayed : Stays (own.ended .signature .params) (own.ended .kept)
-stayed = (stay-ref (0 ∷ []) tt (plain (λ _. Work-type.the-row)), (stay-slice (1 ∷ []) tt (plain (λ _. Entry-type.the-row)), (stay-slice (2 ∷ []) tt (plain (λ _. u8)), (stay-none-slice (3 ∷ []) tt (plain (λ _. u8)) yes, (stay-slice (4 ∷ []) tt (plain (λ _. u8)), (stay-slice (5 ∷ []) tt (plain (λ _. u8)), tt))))))
+stayed = (stay-ref (0 ∷ []) tt (plain (λ _. Work-type.the-row)), (gave-slice (1 ∷ []) tt (plain (λ _. Entry-type.the-row)), (gave-slice (2 ∷ []) tt (plain (λ _. u8)), (stay-none-slice (3 ∷ []) tt (plain (λ _. u8)) yes, (gave-slice (4 ∷ []) tt (plain (λ _. u8)), (gave-slice (5 ∷ []) tt (plain (λ _. u8)), tt))))))
 
 module _ {M : Type 1} (𝓤 : URA M) (H : Heap 𝓤) (A : Atoms 𝓤) (mem : Memory → SProp 𝓤) (run : Routine → Fun 𝓤) where
   abbrev Callee₁ : Contract 𝓤
@@ -169,9 +168,9 @@ module _ {M : Type 1} (𝓤 : URA M) (H : Heap 𝓤) (A : Atoms 𝓤) (W : Given
   abbrev Post : Val → SProp 𝓤
   Post = walkOf 𝓤 H A own.ended stayed (own.clauses 𝓤 H A at-mem run) .post (((κ₀, (κ₁, (κ₂, (κ₃, (κ₄, (κ₅, tt)))))), (q₀, (q₁, (q₂, (q₃, (q₄, (q₅, tt)))))), tt, the-args, the-vals), tt)
 
-  the-exit : (r : LeafGave) (w : Val) → Is LeafGave-type.the-row r (w ∷ []) → (work-exit : Work) → (list-exit : List Entry) → length list-exit ≡ length list → (store-exit : List ℕ) → length store-exit ≡ length store → (area-exit : List ℕ) → length area-exit ≡ length area → (tickets-exit : List ℕ) → length tickets-exit ≡ length tickets → (DigestSays (work) (list) (store) (page) (area) (tickets) r (work-exit) (list-exit) (store-exit) (area-exit) (tickets-exit)) → ent 𝓤 (⋆ 𝓤 H A (‵ (flft κ₀ q₀) ∷ ‵ (flft κ₁ q₁) ∷ ‵ (flft κ₂ q₂) ∷ ‵ (flft κ₃ q₃) ∷ ‵ (flft κ₄ q₄) ∷ ‵ (flft κ₅ q₅) ∷ ‵ (fobs γ-work (Work-type.the-row .coded .code work-exit)) ∷ ‵ (fbor κ₀ (Body (SemTy-of Work-type.the-row) b-work o-work γ-work)) ∷ ‵ (Own-list list-exit) ∷ ‵ (Own-store store-exit) ∷ ‵ (Own-page page) ∷ ‵ (Own-area area-exit) ∷ ‵ (Own-tickets tickets-exit) ∷ [])) (Post w)
+  the-exit : (r : LeafGave) (w : Val) → Is LeafGave-type.the-row r (w ∷ []) → (work-exit : Work) → (list-exit : List Entry) → length list-exit ≡ length list → (store-exit : List ℕ) → length store-exit ≡ length store → (area-exit : List ℕ) → length area-exit ≡ length area → (tickets-exit : List ℕ) → length tickets-exit ≡ length tickets → (DigestSays (work) (list) (store) (page) (area) (tickets) r (work-exit) (list-exit) (store-exit) (area-exit) (tickets-exit)) → ent 𝓤 (⋆ 𝓤 H A (‵ (flft κ₀ q₀) ∷ ‵ (flft κ₁ q₁) ∷ ‵ (flft κ₂ q₂) ∷ ‵ (flft κ₃ q₃) ∷ ‵ (flft κ₄ q₄) ∷ ‵ (flft κ₅ q₅) ∷ ‵ (fobs γ-work (Work-type.the-row .coded .code work-exit)) ∷ ‵ (fbor κ₀ (Body (SemTy-of Work-type.the-row) b-work o-work γ-work)) ∷ ‵ (finally Entry-type.the-row γ-list list-exit) ∷ ‵ (finally u8 γ-store store-exit) ∷ ‵ (Own-page page) ∷ ‵ (finally u8 γ-area area-exit) ∷ ‵ (finally u8 γ-tickets tickets-exit) ∷ [])) (Post w)
   the-exit r w is work-exit list-exit len-list store-exit len-store area-exit len-area tickets-exit len-tickets fact-of =
-      qed W (‵ (flft κ₀ q₀) ∷ ‵ (flft κ₁ q₁) ∷ ‵ (flft κ₂ q₂) ∷ ‵ (flft κ₃ q₃) ∷ ‵ (flft κ₄ q₄) ∷ ‵ (flft κ₅ q₅) ∷ ‵ (fobs γ-work (Work-type.the-row .coded .code work-exit)) ∷ ‵ (fbor κ₀ (Body (SemTy-of Work-type.the-row) b-work o-work γ-work)) ∷ ‵ (Own-list list-exit) ∷ ‵ (Own-store store-exit) ∷ ‵ (Own-page page) ∷ ‵ (Own-area area-exit) ∷ ‵ (Own-tickets tickets-exit) ∷ []) ∵ k-suffices ! _ (ends-at 𝓤 H A own.ended stayed (own.clauses 𝓤 H A at-mem run) W (((κ₀, (κ₁, (κ₂, (κ₃, (κ₄, (κ₅, tt)))))), (q₀, (q₁, (q₂, (q₃, (q₄, (q₅, tt)))))), tt, the-args, the-vals), tt) w r (work-exit, (list-exit, (store-exit, (tt, (area-exit, (tickets-exit, tt)))))) (tt, (len-list, (len-store, (tt, (len-area, (len-tickets, tt))))))) $ k-says ! fact-of $ k-nothing ! $ k-move ! (6 ∷ 0 ∷ []) $ k-join ! $ k-move ! (5 ∷ 0 ∷ []) $ k-join ! $ k-move ! (4 ∷ 0 ∷ []) $ k-join ! $ k-move ! (3 ∷ 0 ∷ []) $ k-join ! $ k-move ! (2 ∷ 0 ∷ []) $ k-join ! $ k-move ! (1 ∷ 0 ∷ []) $ k-join ! $ k-frame ! $ k-nothing ! $ k-move ! (7 ∷ 0 ∷ []) $ k-fjoin ! $ k-move ! (6 ∷ 0 ∷ []) $ k-fjoin ! $ k-move ! (5 ∷ 0 ∷ []) $ k-fjoin ! $ k-move ! (4 ∷ 0 ∷ []) $ k-fjoin ! $ k-move ! (3 ∷ 0 ∷ []) $ k-fjoin ! $ k-move ! (1 ∷ 2 ∷ 0 ∷ []) $ k-feqI ! (List Val) (sv-work ∷ []) (sv-work ∷ []) refl $ k-fjoin3 ! $ k-fjoin ! $ k-owned ! LeafGave-type.the-row (Is LeafGave-type.the-row) (LL.makes LeafGave-type.the-type LeafGave-laws.the-plain 𝓤 H A) r _ is $ k-move ! (1 ∷ 0 ∷ []) $ k-done !
+      qed W (‵ (flft κ₀ q₀) ∷ ‵ (flft κ₁ q₁) ∷ ‵ (flft κ₂ q₂) ∷ ‵ (flft κ₃ q₃) ∷ ‵ (flft κ₄ q₄) ∷ ‵ (flft κ₅ q₅) ∷ ‵ (fobs γ-work (Work-type.the-row .coded .code work-exit)) ∷ ‵ (fbor κ₀ (Body (SemTy-of Work-type.the-row) b-work o-work γ-work)) ∷ ‵ (finally Entry-type.the-row γ-list list-exit) ∷ ‵ (finally u8 γ-store store-exit) ∷ ‵ (Own-page page) ∷ ‵ (finally u8 γ-area area-exit) ∷ ‵ (finally u8 γ-tickets tickets-exit) ∷ []) ∵ k-suffices ! _ (ends-at 𝓤 H A own.ended stayed (own.clauses 𝓤 H A at-mem run) W (((κ₀, (κ₁, (κ₂, (κ₃, (κ₄, (κ₅, tt)))))), (q₀, (q₁, (q₂, (q₃, (q₄, (q₅, tt)))))), tt, the-args, the-vals), tt) w r (work-exit, (list-exit, (store-exit, (tt, (area-exit, (tickets-exit, tt)))))) (tt, (len-list, (len-store, (tt, (len-area, (len-tickets, tt))))))) $ k-says ! fact-of $ k-nothing ! $ k-move ! (6 ∷ 0 ∷ []) $ k-join ! $ k-move ! (5 ∷ 0 ∷ []) $ k-join ! $ k-move ! (4 ∷ 0 ∷ []) $ k-join ! $ k-move ! (3 ∷ 0 ∷ []) $ k-join ! $ k-move ! (2 ∷ 0 ∷ []) $ k-join ! $ k-move ! (1 ∷ 0 ∷ []) $ k-join ! $ k-frame ! $ k-nothing ! $ k-move ! (7 ∷ 0 ∷ []) $ k-fjoin ! $ k-move ! (6 ∷ 0 ∷ []) $ k-fjoin ! $ k-move ! (5 ∷ 0 ∷ []) $ k-fjoin ! $ k-move ! (4 ∷ 0 ∷ []) $ k-fjoin ! $ k-move ! (3 ∷ 0 ∷ []) $ k-fjoin ! $ k-move ! (1 ∷ 2 ∷ 0 ∷ []) $ k-feqI ! (List Val) (sv-work ∷ []) (sv-work ∷ []) refl $ k-fjoin3 ! $ k-fjoin ! $ k-owned ! LeafGave-type.the-row (Is LeafGave-type.the-row) (LL.makes LeafGave-type.the-type LeafGave-laws.the-plain 𝓤 H A) r _ is $ k-move ! (1 ∷ 0 ∷ []) $ k-done !
 
   module _ (𝓣 : Tables 𝓤 H) (known₁ : Triple 𝓤 (𝓣 .C #leaf-room·digest-list) (Callee₁ 𝓤 H A at-mem run)) where
     walk : ent 𝓤 (onEntry 𝓤 H A own.signature (κ₀, (κ₁, (κ₂, (κ₃, (κ₄, (κ₅, tt)))))) (q₀, (q₁, (q₂, (q₃, (q₄, (q₅, tt)))))) the-args the-vals) (WpFn 𝓤 H (𝓣 .C) (𝓣 .Λ) code.function (sv-work ∷ sv-list ∷ sv-store ∷ sv-page ∷ sv-area ∷ sv-tickets ∷ []) Post)
@@ -209,26 +208,15 @@ module _ {M : Type 1} (𝓤 : URA M) (H : Heap 𝓤) (A : Atoms 𝓤) (W : Given
         k-assigns ! (k-agg ! (k-and-then ! (k-load ! (k-from ! (k-stop !)) (k-look ! 21 refl)) (k-and-then ! (k-load ! (k-from ! (k-fld ! refl (k-stop !))) (k-look-in ! 37 (k-sub ! 1 refl (k-whole !)))) (k-no-more !)))) (k-from ! (k-stop !)) (k-init ! 19 refl (tt, (tt, (record { fits = room-area .0 }, tt)))) $
         k-assigns ! (k-addr ! (k-from ! (k-fld ! refl (k-hop ! (k-look-in ! 35 (k-sub ! 0 refl (k-whole !))) (k-stop !))))) (k-from ! (k-stop !)) (k-init ! 17 refl (tt, tt)) $
         k-assigns ! (k-agg ! (k-and-then ! (k-load ! (k-from ! (k-stop !)) (k-look ! 17 refl)) (k-and-then ! (k-load ! (k-from ! (k-fld ! refl (k-stop !))) (k-look-in ! 35 (k-sub ! 1 refl (k-whole !)))) (k-no-more !)))) (k-from ! (k-stop !)) (k-init ! 15 refl (tt, (tt, (record { fits = room-tickets .0 }, tt)))) $
-        k-lft-new ! tt (λ ν-list₁.
-        k-move ! (10 ∷ 15 ∷ []) $
-        use2 W (later (k-some (λ (δ : GName). ‵ (MutSlice (named 0) (ν-list₁ ∷ []) Entry-type.the-row .own (record { ptr = (b-list, o-list); name = δ; now = list }) (sv-list ∷ [])) ⊛ ‵ (LentAgain Entry-type.the-row κ₁ (ν-list₁ ∷ []) q₁ γ-list b-list o-list δ list)))) (lends-again-at Entry-type.the-row κ₁ (ν-list₁ ∷ []) q₁ γ-list b-list o-list 𝓤 H A W (named 1) (named 0) list (length list) refl) $ k-await ! tt $ k-pick ! (λ δ-list₁. k-split ! $
-        k-lft-new ! tt (λ ν-store₁.
-        k-move ! (12 ∷ 16 ∷ []) $
-        use2 W (later (k-some (λ (δ : GName). ‵ (MutSlice (named 0) (ν-store₁ ∷ []) u8 .own (record { ptr = (b-store, o-store); name = δ; now = store }) (sv-store ∷ [])) ⊛ ‵ (LentAgain u8 κ₂ (ν-store₁ ∷ []) q₂ γ-store b-store o-store δ store)))) (lends-again-at u8 κ₂ (ν-store₁ ∷ []) q₂ γ-store b-store o-store 𝓤 H A W (named 2) (named 0) store (length store) refl) $ k-await ! tt $ k-pick ! (λ δ-store₁. k-split ! $
-        k-move ! (13 ∷ []) $
+        k-move ! (7 ∷ []) $
         use1 W (‵ (Own-page page) ⊛ ‵ (Own-page page)) (shr-slice-copy 𝓤 H A W (named 3) κ₃ u8 .twice (ref-page page) (sv-page ∷ [])) $ k-split ! $
-        k-lft-new ! tt (λ ν-area₁.
-        k-move ! (15 ∷ 17 ∷ []) $
-        use2 W (later (k-some (λ (δ : GName). ‵ (MutSlice (named 0) (ν-area₁ ∷ []) u8 .own (record { ptr = (b-area, o-area); name = δ; now = area }) (sv-area ∷ [])) ⊛ ‵ (LentAgain u8 κ₄ (ν-area₁ ∷ []) q₄ γ-area b-area o-area δ area)))) (lends-again-at u8 κ₄ (ν-area₁ ∷ []) q₄ γ-area b-area o-area 𝓤 H A W (named 4) (named 0) area (length area) refl) $ k-await ! tt $ k-pick ! (λ δ-area₁. k-split ! $
-        k-lft-new ! tt (λ ν-tickets₁.
-        k-move ! (17 ∷ 18 ∷ []) $
-        use2 W (later (k-some (λ (δ : GName). ‵ (MutSlice (named 0) (ν-tickets₁ ∷ []) u8 .own (record { ptr = (b-tickets, o-tickets); name = δ; now = tickets }) (sv-tickets ∷ [])) ⊛ ‵ (LentAgain u8 κ₅ (ν-tickets₁ ∷ []) q₅ γ-tickets b-tickets o-tickets δ tickets)))) (lends-again-at u8 κ₅ (ν-tickets₁ ∷ []) q₅ γ-tickets b-tickets o-tickets 𝓤 H A W (named 5) (named 0) tickets (length tickets) refl) $ k-await ! tt $ k-pick ! (λ δ-tickets₁. k-split ! $
-        k-move ! (13 ∷ 10 ∷ 19 ∷ 5 ∷ 2 ∷ 11 ∷ 8 ∷ 6 ∷ 3 ∷ 0 ∷ []) $
-        k-group ! 10 $ use1 W (raw ((Callee₁ 𝓤 H A at-mem run) .pre (to₁ 𝓤 H A W at-mem run (ν-list₁ ∷ []) fullShare (ν-store₁ ∷ []) fullShare κ₃ q₃ (ν-area₁ ∷ []) fullShare (ν-tickets₁ ∷ []) fullShare work (mach-Work work) b-list o-list δ-list₁ list (length list) b-store o-store δ-store₁ store (length store) b-page o-page γ-page page (length page) b-area o-area δ-area₁ area (length area) b-tickets o-tickets δ-tickets₁ tickets (length tickets)))) (asks₁ 𝓤 H A W at-mem run (ν-list₁ ∷ []) fullShare (ν-store₁ ∷ []) fullShare κ₃ q₃ (ν-area₁ ∷ []) fullShare (ν-tickets₁ ∷ []) fullShare work (mach-Work work) b-list o-list δ-list₁ list (length list) b-store o-store δ-store₁ store (length store) b-page o-page γ-page page (length page) b-area o-area δ-area₁ area (length area) b-tickets o-tickets δ-tickets₁ tickets (length tickets) is-work) $
-        k-calls-at ! (fmOf 𝓤 H (W .laws) 𝓣) (Callee₁ 𝓤 H A at-mem run) known₁ (to₁ 𝓤 H A W at-mem run (ν-list₁ ∷ []) fullShare (ν-store₁ ∷ []) fullShare κ₃ q₃ (ν-area₁ ∷ []) fullShare (ν-tickets₁ ∷ []) fullShare work (mach-Work work) b-list o-list δ-list₁ list (length list) b-store o-store δ-store₁ store (length store) b-page o-page γ-page page (length page) b-area o-area δ-area₁ area (length area) b-tickets o-tickets δ-tickets₁ tickets (length tickets)) (k-and-then ! (k-load ! (k-from ! (k-stop !)) (k-look ! 27 refl)) (k-and-then ! (k-load ! (k-from ! (k-stop !)) (k-look ! 23 refl)) (k-and-then ! (k-load ! (k-from ! (k-stop !)) (k-look ! 19 refl)) (k-and-then ! (k-load ! (k-from ! (k-stop !)) (k-look ! 35 refl)) (k-and-then ! (k-load ! (k-from ! (k-stop !)) (k-look ! 15 refl)) (k-and-then ! (k-load ! (k-from ! (k-stop !)) (k-look ! 11 refl)) (k-no-more !))))))) (λ w₁.
-        use1 W (later (k-some (λ (r₁ : DigestStep). ((‵ (flft (ν-list₁ ∷ []) fullShare) ⊛ ‵ (flft (ν-store₁ ∷ []) fullShare) ⊛ ‵ (flft κ₃ q₃) ⊛ ‵ (flft (ν-area₁ ∷ []) fullShare) ⊛ ‵ (flft (ν-tickets₁ ∷ []) fullShare) ⊛ ‵ ftrue) ⊛ ‵ (DigestStep-type.the-row .own r₁ (w₁ ∷ []))) ⊛ raw (ensured 𝓤 H A callee₁.ended (callee₁.clauses 𝓤 H A at-mem run) (ν-list₁ ∷ [], (ν-store₁ ∷ [], (κ₃, (ν-area₁ ∷ [], (ν-tickets₁ ∷ [], tt))))) (args₁ 𝓤 H A W at-mem run (ν-list₁ ∷ []) fullShare (ν-store₁ ∷ []) fullShare κ₃ q₃ (ν-area₁ ∷ []) fullShare (ν-tickets₁ ∷ []) fullShare work (mach-Work work) b-list o-list δ-list₁ list (length list) b-store o-store δ-store₁ store (length store) b-page o-page γ-page page (length page) b-area o-area δ-area₁ area (length area) b-tickets o-tickets δ-tickets₁ tickets (length tickets)) tt r₁)))) (id⊢ 𝓤 _) $ k-await ! tt $ k-pick ! (λ r₁.
+        k-move ! (15 ∷ 14 ∷ 13 ∷ 12 ∷ 11 ∷ 10 ∷ 9 ∷ 0 ∷ 8 ∷ 7 ∷ []) $
+        k-group ! 10 $ use1 W (raw ((Callee₁ 𝓤 H A at-mem run) .pre (to₁ 𝓤 H A W at-mem run κ₁ q₁ κ₂ q₂ κ₃ q₃ κ₄ q₄ κ₅ q₅ work (mach-Work work) b-list o-list γ-list list (length list) b-store o-store γ-store store (length store) b-page o-page γ-page page (length page) b-area o-area γ-area area (length area) b-tickets o-tickets γ-tickets tickets (length tickets)))) (asks₁ 𝓤 H A W at-mem run κ₁ q₁ κ₂ q₂ κ₃ q₃ κ₄ q₄ κ₅ q₅ work (mach-Work work) b-list o-list γ-list list (length list) b-store o-store γ-store store (length store) b-page o-page γ-page page (length page) b-area o-area γ-area area (length area) b-tickets o-tickets γ-tickets tickets (length tickets) is-work) $
+        stands W (_ ∷ _ ∷ _ ∷ _ ∷ _ ∷ _ ∷ _ ∷ []) (none ∷ has _ ∷ has _ ∷ has _ ∷ has _ ∷ has _ ∷ has _ ∷ none ∷ has _ ∷ has _ ∷ has _ ∷ has _ ∷ has _ ∷ has _ ∷ has _ ∷ has _ ∷ has _ ∷ []) $
+        k-calls-at ! (fmOf 𝓤 H (W .laws) 𝓣) (Callee₁ 𝓤 H A at-mem run) known₁ (to₁ 𝓤 H A W at-mem run κ₁ q₁ κ₂ q₂ κ₃ q₃ κ₄ q₄ κ₅ q₅ work (mach-Work work) b-list o-list γ-list list (length list) b-store o-store γ-store store (length store) b-page o-page γ-page page (length page) b-area o-area γ-area area (length area) b-tickets o-tickets γ-tickets tickets (length tickets)) (k-and-then ! (k-load ! (k-from ! (k-stop !)) (k-look ! 23 refl)) (k-and-then ! (k-load ! (k-from ! (k-stop !)) (k-look ! 19 refl)) (k-and-then ! (k-load ! (k-from ! (k-stop !)) (k-look ! 15 refl)) (k-and-then ! (k-load ! (k-from ! (k-stop !)) (k-look ! 31 refl)) (k-and-then ! (k-load ! (k-from ! (k-stop !)) (k-look ! 11 refl)) (k-and-then ! (k-load ! (k-from ! (k-stop !)) (k-look ! 7 refl)) (k-no-more !))))))) (λ w₁.
+        use1 W (later (k-some (λ (r₁ : DigestStep). ((‵ (flft κ₁ q₁) ⊛ ‵ (flft κ₂ q₂) ⊛ ‵ (flft κ₃ q₃) ⊛ ‵ (flft κ₄ q₄) ⊛ ‵ (flft κ₅ q₅) ⊛ ‵ ftrue) ⊛ ‵ (DigestStep-type.the-row .own r₁ (w₁ ∷ []))) ⊛ raw (ensured 𝓤 H A callee₁.ended (callee₁.clauses 𝓤 H A at-mem run) (κ₁, (κ₂, (κ₃, (κ₄, (κ₅, tt))))) (args₁ 𝓤 H A W at-mem run κ₁ q₁ κ₂ q₂ κ₃ q₃ κ₄ q₄ κ₅ q₅ work (mach-Work work) b-list o-list γ-list list (length list) b-store o-store γ-store store (length store) b-page o-page γ-page page (length page) b-area o-area γ-area area (length area) b-tickets o-tickets γ-tickets tickets (length tickets)) tt r₁)))) (id⊢ 𝓤 _) $ k-await ! tt $ k-pick ! (λ r₁.
         k-split ! $ k-move ! (1 ∷ []) $
-        use1 W (k-some (λ (us : Unit {0} × (List Entry × (List ℕ × (Unit {0} × (List ℕ × (List ℕ × Unit {0})))))). ‵ (lasts callee₁.ended (ν-list₁ ∷ [], (ν-store₁ ∷ [], (κ₃, (ν-area₁ ∷ [], (ν-tickets₁ ∷ [], tt))))) (args₁ 𝓤 H A W at-mem run (ν-list₁ ∷ []) fullShare (ν-store₁ ∷ []) fullShare κ₃ q₃ (ν-area₁ ∷ []) fullShare (ν-tickets₁ ∷ []) fullShare work (mach-Work work) b-list o-list δ-list₁ list (length list) b-store o-store δ-store₁ store (length store) b-page o-page γ-page page (length page) b-area o-area δ-area₁ area (length area) b-tickets o-tickets δ-tickets₁ tickets (length tickets)) us) ⊛ raw (fact 𝓤 (Said₁ 𝓤 H A W at-mem run work list store page area tickets r₁ (us .1 .0) (us .1 .1 .0) (us .1 .1 .1 .1 .0) (us .1 .1 .1 .1 .1 .0))))) (id⊢ 𝓤 _) $ k-pick ! (λ zs₁. k-split ! $ k-move ! (1 ∷ []) $
+        use1 W (k-some (λ (us : Unit {0} × (List Entry × (List ℕ × (Unit {0} × (List ℕ × (List ℕ × Unit {0})))))). ‵ (lasts callee₁.ended (κ₁, (κ₂, (κ₃, (κ₄, (κ₅, tt))))) (args₁ 𝓤 H A W at-mem run κ₁ q₁ κ₂ q₂ κ₃ q₃ κ₄ q₄ κ₅ q₅ work (mach-Work work) b-list o-list γ-list list (length list) b-store o-store γ-store store (length store) b-page o-page γ-page page (length page) b-area o-area γ-area area (length area) b-tickets o-tickets γ-tickets tickets (length tickets)) us) ⊛ raw (fact 𝓤 (Said₁ 𝓤 H A W at-mem run work list store page area tickets r₁ (us .1 .0) (us .1 .1 .0) (us .1 .1 .1 .1 .0) (us .1 .1 .1 .1 .1 .0))))) (id⊢ 𝓤 _) $ k-pick ! (λ zs₁. k-split ! $ k-move ! (1 ∷ []) $
         k-heard ! (Said₁ 𝓤 H A W at-mem run work list store page area tickets r₁ (zs₁ .1 .0) (zs₁ .1 .1 .0) (zs₁ .1 .1 .1 .1 .0) (zs₁ .1 .1 .1 .1 .1 .0)) (λ f₁.
         let list-exit₁ = zs₁ .1 .0 in let store-exit₁ = zs₁ .1 .1 .0 in let area-exit₁ = zs₁ .1 .1 .1 .1 .0 in let tickets-exit₁ = zs₁ .1 .1 .1 .1 .1 .0 in
         k-fsplit ! $ k-drop ! $
@@ -241,8 +229,8 @@ module _ {M : Type 1} (𝓤 : URA M) (H : Heap 𝓤) (A : Atoms 𝓤) (W : Given
         k-move ! (4 ∷ []) $
         k-split ! $ k-move ! (1 ∷ []) $
         k-peeks ! DigestStep-type.the-row (Is DigestStep-type.the-row) (shows 𝓤 H A DigestStep-type.the-row) r₁ (w₁ ∷ []) (λ is₁.
-        k-land ! (k-from ! (k-stop !)) (k-init ! 34 refl (LL.lawful DigestStep-type.the-type DigestStep-laws.the-laws 𝓤 H A W .typed r₁ _ is₁ .0)) $
-        k-rewrite ! 34 (λ (u : Val). ‵ (fat fullShare (tyAt piece.locals 7) l₇ 0 u)) (ap only ((LL.tells DigestStep-type.the-type DigestStep-laws.the-laws) r₁ _ is₁)) refl $
+        k-land ! (k-from ! (k-stop !)) (k-init ! 30 refl (LL.lawful DigestStep-type.the-type DigestStep-laws.the-laws 𝓤 H A W .typed r₁ _ is₁ .0)) $
+        k-rewrite ! 30 (λ (u : Val). ‵ (fat fullShare (tyAt piece.locals 7) l₇ 0 u)) (ap only ((LL.tells DigestStep-type.the-type DigestStep-laws.the-laws) r₁ _ is₁)) refl $
         k-drop ! $
         k-split ! $ k-move ! (1 ∷ []) $
         k-split ! $ k-move ! (1 ∷ []) $
@@ -250,23 +238,6 @@ module _ {M : Type 1} (𝓤 : URA M) (H : Heap 𝓤) (A : Atoms 𝓤) (W : Given
         k-split ! $ k-move ! (1 ∷ []) $
         k-split ! $ k-move ! (1 ∷ []) $
         k-drop ! $
-        k-move ! (4 ∷ []) $
-        k-lft-end ! tt $
-        k-move ! (0 ∷ 13 ∷ 8 ∷ []) $
-        use3 W (later (‵ (Own-list (zs₁ .1 .0)) ⊛ ‵ (flft κ₁ q₁))) (comes-back-at Entry-type.the-row κ₁ (ν-list₁ ∷ []) q₁ γ-list b-list o-list 𝓤 H A W (named 1) (named 0) list (length list) refl δ-list₁ (zs₁ .1 .0) room-list len-list₁) $ k-await ! tt $ k-split ! $
-        k-move ! (5 ∷ []) $
-        k-lft-end ! tt $
-        k-move ! (0 ∷ 12 ∷ 8 ∷ []) $
-        use3 W (later (‵ (Own-store (zs₁ .1 .1 .0)) ⊛ ‵ (flft κ₂ q₂))) (comes-back-at u8 κ₂ (ν-store₁ ∷ []) q₂ γ-store b-store o-store 𝓤 H A W (named 2) (named 0) store (length store) refl δ-store₁ (zs₁ .1 .1 .0) room-store len-store₁) $ k-await ! tt $ k-split ! $
-        k-move ! (5 ∷ []) $
-        k-lft-end ! tt $
-        k-move ! (0 ∷ 10 ∷ 8 ∷ []) $
-        use3 W (later (‵ (Own-area (zs₁ .1 .1 .1 .1 .0)) ⊛ ‵ (flft κ₄ q₄))) (comes-back-at u8 κ₄ (ν-area₁ ∷ []) q₄ γ-area b-area o-area 𝓤 H A W (named 4) (named 0) area (length area) refl δ-area₁ (zs₁ .1 .1 .1 .1 .0) room-area len-area₁) $ k-await ! tt $ k-split ! $
-        k-move ! (6 ∷ []) $
-        k-lft-end ! tt $
-        k-move ! (0 ∷ 9 ∷ 8 ∷ []) $
-        use3 W (later (‵ (Own-tickets (zs₁ .1 .1 .1 .1 .1 .0)) ⊛ ‵ (flft κ₅ q₅))) (comes-back-at u8 κ₅ (ν-tickets₁ ∷ []) q₅ γ-tickets b-tickets o-tickets 𝓤 H A W (named 5) (named 0) tickets (length tickets) refl δ-tickets₁ (zs₁ .1 .1 .1 .1 .1 .0) room-tickets len-tickets₁) $ k-await ! tt $ k-split ! $
-        stands W (_ ∷ _ ∷ _ ∷ _ ∷ _ ∷ _ ∷ _ ∷ _ ∷ _ ∷ _ ∷ _ ∷ _ ∷ _ ∷ _ ∷ _ ∷ []) (none ∷ has _ ∷ has _ ∷ has _ ∷ has _ ∷ has _ ∷ has _ ∷ has _ ∷ has _ ∷ has _ ∷ has _ ∷ has _ ∷ has _ ∷ has _ ∷ has _ ∷ has _ ∷ has _ ∷ []) $
         k-assigns ! (k-of-opd ! (k-load ! (k-from ! (k-fld ! {d = 48} refl (k-stop !))) (k-look-in ! 33 (k-sub ! 1 {d = 48} refl (k-whole !))))) (k-from ! (k-hop ! (k-look ! 45 refl) (k-stop !))) (k-store-raw ! 11 refl (LL.lawful Work-type.the-type Work-laws.the-laws 𝓤 H A W .typed ((r₁ .work)) _ (LL.owed DigestStep-type.the-type DigestStep-laws.the-laws r₁ _ (subst (λ (u : Val). Is DigestStep-type.the-row r₁ (u ∷ [])) (ap only ((LL.tells DigestStep-type.the-type DigestStep-laws.the-laws) r₁ _ is₁)) is₁) .1 .0) .0)) $
         k-assigns ! (k-of-opd ! (k-load ! (k-from ! (k-fld ! {d = 0} refl (k-stop !))) (k-look-in ! 33 (k-sub ! 0 {d = 0} refl (k-whole !))))) (k-from ! (k-stop !)) (k-init ! 47 refl (LL.lawful LeafGave-type.the-type LeafGave-laws.the-laws 𝓤 H A W .typed ((r₁ .reply)) _ (LL.owed DigestStep-type.the-type DigestStep-laws.the-laws r₁ _ (subst (λ (u : Val). Is DigestStep-type.the-row r₁ (u ∷ [])) (ap only ((LL.tells DigestStep-type.the-type DigestStep-laws.the-laws) r₁ _ is₁)) is₁) .0) .0)) $
         k-move ! (10 ∷ []) $
@@ -275,8 +246,8 @@ module _ {M : Type 1} (𝓤 : URA M) (H : Heap 𝓤) (A : Atoms 𝓤) (W : Given
         k-move ! (11 ∷ 0 ∷ 12 ∷ 13 ∷ 14 ∷ []) $
         k-closes ! tt Work-type.the-row (r₁ .work) ((mach-Work ((r₁ .work))) ∷ []) b-work o-work $
         k-returns ! (k-look ! 45 refl) $ all-freed W (_ ∷ _ ∷ _ ∷ _ ∷ _ ∷ _ ∷ _ ∷ _ ∷ _ ∷ _ ∷ _ ∷ _ ∷ _ ∷ []) (has _ ∷ has _ ∷ has _ ∷ has _ ∷ has _ ∷ has _ ∷ has _ ∷ has _ ∷ has _ ∷ has _ ∷ has _ ∷ has _ ∷ has _ ∷ has _ ∷ has _ ∷ has _ ∷ has _ ∷ []) $
-        k-keep ! (2 ∷ 10 ∷ 8 ∷ 11 ∷ 6 ∷ 4 ∷ 0 ∷ 1 ∷ 9 ∷ 7 ∷ 12 ∷ 5 ∷ 3 ∷ []) $
-        k-by ! (the-exit (r₁ .reply) (mach-LeafGave ((r₁ .reply))) (LL.owed DigestStep-type.the-type DigestStep-laws.the-laws r₁ _ (subst (λ (u : Val). Is DigestStep-type.the-row r₁ (u ∷ [])) (ap only ((LL.tells DigestStep-type.the-type DigestStep-laws.the-laws) r₁ _ is₁)) is₁) .0) ((r₁ .work)) ((zs₁ .1 .0)) len-list₁ ((zs₁ .1 .1 .0)) len-store₁ ((zs₁ .1 .1 .1 .1 .0)) len-area₁ ((zs₁ .1 .1 .1 .1 .1 .0)) len-tickets₁ (f₁))))))))))))))))))))))))))))))))))))))
+        k-keep ! (2 ∷ 7 ∷ 6 ∷ 5 ∷ 4 ∷ 3 ∷ 0 ∷ 1 ∷ 11 ∷ 10 ∷ 12 ∷ 9 ∷ 8 ∷ []) $
+        k-by ! (the-exit (r₁ .reply) (mach-LeafGave ((r₁ .reply))) (LL.owed DigestStep-type.the-type DigestStep-laws.the-laws r₁ _ (subst (λ (u : Val). Is DigestStep-type.the-row r₁ (u ∷ [])) (ap only ((LL.tells DigestStep-type.the-type DigestStep-laws.the-laws) r₁ _ is₁)) is₁) .0) ((r₁ .work)) ((zs₁ .1 .0)) len-list₁ ((zs₁ .1 .1 .0)) len-store₁ ((zs₁ .1 .1 .1 .1 .0)) len-area₁ ((zs₁ .1 .1 .1 .1 .1 .0)) len-tickets₁ (f₁))))))))))))))))))))))))))))))
 
 module _ {M : Type 1} (𝓤 : URA M) (H : Heap 𝓤) (A : Atoms 𝓤) (W : Given 𝓤 H A) (mem : Memory → SProp 𝓤) (run : Routine → Fun 𝓤) (𝓣 : Tables 𝓤 H) (known₁ : Triple 𝓤 (𝓣 .C #leaf-room·digest-list) (Callee₁ 𝓤 H A mem run)) where
   leaf-digest-walks : Walks 𝓤 H A own.ended stayed (WpFn 𝓤 H (𝓣 .C) (𝓣 .Λ) code.function) (own.clauses 𝓤 H A mem run)
@@ -285,7 +256,7 @@ module _ {M : Type 1} (𝓤 : URA M) (H : Heap 𝓤) (A : Atoms 𝓤) (W : Given
       (λ κs qs bounds a g are. via 𝓤 _ (fst∗ 𝓤 _ (emp 𝓤)) (walk 𝓤 H A W mem run (κs .0) (κs .1 .0) (κs .1 .1 .0) (κs .1 .1 .1 .0) (κs .1 .1 .1 .1 .0) (κs .1 .1 .1 .1 .1 .0) (qs .0) (qs .1 .0) (qs .1 .1 .0) (qs .1 .1 .1 .0) (qs .1 .1 .1 .1 .0) (qs .1 .1 .1 .1 .1 .0) (a .0 .ptr .0) (a .0 .ptr .1) (a .0 .name) (a .0 .now) (a .1 .0 .ptr .0) (a .1 .0 .ptr .1) (a .1 .0 .name) (a .1 .0 .now) (are .1 .0 .0 .1) (a .1 .1 .0 .ptr .0) (a .1 .1 .0 .ptr .1) (a .1 .1 .0 .name) (a .1 .1 .0 .now) (are .1 .1 .0 .0 .1) (a .1 .1 .1 .0 .ptr .0) (a .1 .1 .1 .0 .ptr .1) (a .1 .1 .1 .0 .name) (a .1 .1 .1 .0 .now) (are .1 .1 .1 .0 .0 .1) (a .1 .1 .1 .1 .0 .ptr .0) (a .1 .1 .1 .1 .0 .ptr .1) (a .1 .1 .1 .1 .0 .name) (a .1 .1 .1 .1 .0 .now) (are .1 .1 .1 .1 .0 .0 .1) (a .1 .1 .1 .1 .1 .0 .ptr .0) (a .1 .1 .1 .1 .1 .0 .ptr .1) (a .1 .1 .1 .1 .1 .0 .name) (a .1 .1 .1 .1 .1 .0 .now) (are .1 .1 .1 .1 .1 .0 .0 .1) 𝓣 known₁))
 
   leaf-digest-meets : Meets 𝓤 H A own.signature (WpFn 𝓤 H (𝓣 .C) (𝓣 .Λ) code.function) (own.spec 𝓤 H A mem run)
-  leaf-digest-meets = walk-meets 𝓤 H A own.ended stayed W (goes-ref 𝓤 H A W 6 0 tt (plain (λ _. Work-type.the-row)), (goes-slice 𝓤 H A W 6 1 tt (plain (λ _. Entry-type.the-row)), (goes-slice 𝓤 H A W 6 2 tt (plain (λ _. u8)), (goes-none-slice 𝓤 H A W 6 (3 ∷ []) tt (plain (λ _. u8)) yes, (goes-slice 𝓤 H A W 6 4 tt (plain (λ _. u8)), (goes-slice 𝓤 H A W 6 5 tt (plain (λ _. u8)), tt)))))) (own.clauses 𝓤 H A mem run)
+  leaf-digest-meets = walk-meets 𝓤 H A own.ended stayed W (goes-ref 𝓤 H A W 6 0 tt (plain (λ _. Work-type.the-row)), (goes-gave-slice 𝓤 H A W 6 1 tt (plain (λ _. Entry-type.the-row)), (goes-gave-slice 𝓤 H A W 6 2 tt (plain (λ _. u8)), (goes-none-slice 𝓤 H A W 6 (3 ∷ []) tt (plain (λ _. u8)) yes, (goes-gave-slice 𝓤 H A W 6 4 tt (plain (λ _. u8)), (goes-gave-slice 𝓤 H A W 6 5 tt (plain (λ _. u8)), tt)))))) (own.clauses 𝓤 H A mem run)
       (WpFn 𝓤 H (𝓣 .C) (𝓣 .Λ) code.function) (WpFn-mono 𝓤 H (W .laws) 𝓣 code.function) leaf-digest-walks
 
 pub leaf-digest-spec : {M : Type 1} → stated.statement M

@@ -31,7 +31,7 @@ use denote.Plain.{Nothing, uint-makes, uint-vals, uint-tells}
 use denote.Builtin.{u8, usize, ArrayOf}
 use denote.Array.{Array}
 use denote.Ref.{RefT, MutRef, ShrRef, ptr-vals, mut-tells, shr-tells, shr-copy}
-use denote.Slice.{sliceVal, MutSlice, ShrSlice, Room, slice-vals, mut-slice-tells, shr-slice-tells, shr-slice-copy}
+use denote.Slice.{finally, sliceVal, MutSlice, ShrSlice, Room, slice-vals, mut-slice-tells, shr-slice-tells, shr-slice-copy}
 use denote.Steps.{only, owned as k-owned, peeks as k-peeks, heard as k-heard, nothing as k-nothing, opens as k-opens, closes as k-closes}
 use denote.Struct.Steps.{spelt as k-spelt}
 use denote.Triple.Entry.{onEntry}
@@ -40,7 +40,7 @@ use denote.Triple.Statement.{Contract, Triple}
 use denote.Triple.Call.{calls-at as k-calls-at}
 use denote.Triple.Clauses.{ensured, lasts}
 use denote.Triple.Table.{entered, cited}
-use denote.Triple.Walked.{Stays, stay-none, stay-none-slice, stay-slice, stay-ref, stay-none-ref, walkOf, goes-none, goes-none-slice, goes-slice, goes-ref, goes-none-ref, Walks, ends-at, walked, walk-meets, says as k-says}
+use denote.Triple.Walked.{Stays, stay-none, stay-none-slice, gave-slice, stay-ref, stay-none-ref, walkOf, goes-none, goes-none-slice, goes-gave-slice, goes-ref, goes-none-ref, Walks, ends-at, walked, walk-meets, says as k-says}
 use denote.Exit.{yes}
 use denote.Signature.{plain}
 use Rattle.leaf_ingest.specs.Reply.{changeOf}
@@ -51,7 +51,7 @@ use Rattle.leaf_step.specs.Over.{Over}
 use Rattle.leaf_take.specs.Listing.{Steps}
 use denote.Struct.Laws as LL
 use Rattle.leaf_entries.proofs.Locals.{tyAt}
-use Rattle.leaf_entries.proofs.Freed.{all-freed, stands, cells}
+use Rattle.leaf_entries.proofs.Freed.{all-freed, stands, sinks, cells}
 use Rattle.leaf_entries.proofs.Order.{lt-or-ge}
 use Rattle.leaf_entries.proofs.Again.{LentAgain, lends-again-at, comes-back-at}
 use Rattle.leaf_entries.proofs.Shared.{LentShared, shares-again-at, shared-back-at}
@@ -110,7 +110,7 @@ abbrev mach-IngestStep : IngestStep → Val
 mach-IngestStep z = only (LL.vals IngestStep-type.the-type IngestStep-laws.the-laws z)
 
 abbrev stayed : Stays (own.ended .signature .params) (own.ended .kept)
-stayed = (stay-ref (0 ∷ []) tt (plain (λ _. Work-type.the-row)), (stay-slice (1 ∷ []) tt (plain (λ _. Entry-type.the-row)), (stay-slice (2 ∷ []) tt (plain (λ _. u8)), (stay-none-slice (3 ∷ []) tt (plain (λ _. u8)) yes, (stay-none-ref (4 ∷ []) tt (ArrayOf (plain (λ _. u8)) (λ _. tt) 32) yes, (stay-none (λ _. u8) yes, (stay-none (λ _. u8) yes, (stay-none-slice (5 ∷ []) tt (plain (λ _. u8)) yes, tt))))))))
+stayed = (stay-ref (0 ∷ []) tt (plain (λ _. Work-type.the-row)), (gave-slice (1 ∷ []) tt (plain (λ _. Entry-type.the-row)), (gave-slice (2 ∷ []) tt (plain (λ _. u8)), (stay-none-slice (3 ∷ []) tt (plain (λ _. u8)) yes, (stay-none-ref (4 ∷ []) tt (ArrayOf (plain (λ _. u8)) (λ _. tt) 32) yes, (stay-none (λ _. u8) yes, (stay-none (λ _. u8) yes, (stay-none-slice (5 ∷ []) tt (plain (λ _. u8)) yes, tt))))))))
 
 module _ {M : Type 1} (𝓤 : URA M) (H : Heap 𝓤) (A : Atoms 𝓤) (mem : Memory → SProp 𝓤) (run : Routine → Fun 𝓤) where
   abbrev Callee₁ : Contract 𝓤
@@ -251,9 +251,9 @@ module _ {M : Type 1} (𝓤 : URA M) (H : Heap 𝓤) (A : Atoms 𝓤) (W : Given
   abbrev Post : Val → SProp 𝓤
   Post = walkOf 𝓤 H A own.ended stayed (own.clauses 𝓤 H A at-mem run) .post (((κ₀, (κ₁, (κ₂, (κ₃, (κ₄, (κ₅, tt)))))), (q₀, (q₁, (q₂, (q₃, (q₄, (q₅, tt)))))), tt, the-args, the-vals), tt)
 
-  the-exit : (r : LeafReport) (w : Val) → Is LeafReport-type.the-row r (w ∷ []) → (work-exit : Work) → (list-exit : List Entry) → length list-exit ≡ length list → (store-exit : List ℕ) → length store-exit ≡ length store → (IngestSays (work) (list) (store) (page) (key) (changeOf (changeGiven put flag) (value)) r (work-exit) (list-exit) (store-exit)) → ent 𝓤 (⋆ 𝓤 H A (‵ (flft κ₀ q₀) ∷ ‵ (flft κ₁ q₁) ∷ ‵ (flft κ₂ q₂) ∷ ‵ (flft κ₃ q₃) ∷ ‵ (flft κ₄ q₄) ∷ ‵ (flft κ₅ q₅) ∷ ‵ (fobs γ-work (Work-type.the-row .coded .code work-exit)) ∷ ‵ (fbor κ₀ (Body (SemTy-of Work-type.the-row) b-work o-work γ-work)) ∷ ‵ (Own-list list-exit) ∷ ‵ (Own-store store-exit) ∷ ‵ (Own-page page) ∷ ‵ (Own-key key) ∷ ‵ (Own-value value) ∷ [])) (Post w)
+  the-exit : (r : LeafReport) (w : Val) → Is LeafReport-type.the-row r (w ∷ []) → (work-exit : Work) → (list-exit : List Entry) → length list-exit ≡ length list → (store-exit : List ℕ) → length store-exit ≡ length store → (IngestSays (work) (list) (store) (page) (key) (changeOf (changeGiven put flag) (value)) r (work-exit) (list-exit) (store-exit)) → ent 𝓤 (⋆ 𝓤 H A (‵ (flft κ₀ q₀) ∷ ‵ (flft κ₁ q₁) ∷ ‵ (flft κ₂ q₂) ∷ ‵ (flft κ₃ q₃) ∷ ‵ (flft κ₄ q₄) ∷ ‵ (flft κ₅ q₅) ∷ ‵ (fobs γ-work (Work-type.the-row .coded .code work-exit)) ∷ ‵ (fbor κ₀ (Body (SemTy-of Work-type.the-row) b-work o-work γ-work)) ∷ ‵ (finally Entry-type.the-row γ-list list-exit) ∷ ‵ (finally u8 γ-store store-exit) ∷ ‵ (Own-page page) ∷ ‵ (Own-key key) ∷ ‵ (Own-value value) ∷ [])) (Post w)
   the-exit r w is work-exit list-exit len-list store-exit len-store fact-of =
-      qed W (‵ (flft κ₀ q₀) ∷ ‵ (flft κ₁ q₁) ∷ ‵ (flft κ₂ q₂) ∷ ‵ (flft κ₃ q₃) ∷ ‵ (flft κ₄ q₄) ∷ ‵ (flft κ₅ q₅) ∷ ‵ (fobs γ-work (Work-type.the-row .coded .code work-exit)) ∷ ‵ (fbor κ₀ (Body (SemTy-of Work-type.the-row) b-work o-work γ-work)) ∷ ‵ (Own-list list-exit) ∷ ‵ (Own-store store-exit) ∷ ‵ (Own-page page) ∷ ‵ (Own-key key) ∷ ‵ (Own-value value) ∷ []) ∵ k-suffices ! _ (ends-at 𝓤 H A own.ended stayed (own.clauses 𝓤 H A at-mem run) W (((κ₀, (κ₁, (κ₂, (κ₃, (κ₄, (κ₅, tt)))))), (q₀, (q₁, (q₂, (q₃, (q₄, (q₅, tt)))))), tt, the-args, the-vals), tt) w r (work-exit, (list-exit, (store-exit, (tt, (tt, (tt, (tt, (tt, tt)))))))) (tt, (len-list, (len-store, (tt, (tt, (tt, (tt, (tt, tt))))))))) $ k-says ! fact-of $ k-nothing ! $ k-move ! (6 ∷ 0 ∷ []) $ k-join ! $ k-move ! (5 ∷ 0 ∷ []) $ k-join ! $ k-move ! (4 ∷ 0 ∷ []) $ k-join ! $ k-move ! (3 ∷ 0 ∷ []) $ k-join ! $ k-move ! (2 ∷ 0 ∷ []) $ k-join ! $ k-move ! (1 ∷ 0 ∷ []) $ k-join ! $ k-frame ! $ k-nothing ! $ k-move ! (7 ∷ 0 ∷ []) $ k-fjoin ! $ k-owned ! u8 (Is u8) (uint-makes 𝓤 H A W w8) flag _ (refl, flag-fits) $ k-fjoin ! $ k-owned ! u8 (Is u8) (uint-makes 𝓤 H A W w8) put _ (refl, put-fits) $ k-fjoin ! $ k-move ! (6 ∷ 0 ∷ []) $ k-fjoin ! $ k-move ! (5 ∷ 0 ∷ []) $ k-fjoin ! $ k-move ! (4 ∷ 0 ∷ []) $ k-fjoin ! $ k-move ! (3 ∷ 0 ∷ []) $ k-fjoin ! $ k-move ! (1 ∷ 2 ∷ 0 ∷ []) $ k-feqI ! (List Val) (sv-work ∷ []) (sv-work ∷ []) refl $ k-fjoin3 ! $ k-fjoin ! $ k-owned ! LeafReport-type.the-row (Is LeafReport-type.the-row) (LL.makes LeafReport-type.the-type LeafReport-laws.the-plain 𝓤 H A) r _ is $ k-move ! (1 ∷ 0 ∷ []) $ k-done !
+      qed W (‵ (flft κ₀ q₀) ∷ ‵ (flft κ₁ q₁) ∷ ‵ (flft κ₂ q₂) ∷ ‵ (flft κ₃ q₃) ∷ ‵ (flft κ₄ q₄) ∷ ‵ (flft κ₅ q₅) ∷ ‵ (fobs γ-work (Work-type.the-row .coded .code work-exit)) ∷ ‵ (fbor κ₀ (Body (SemTy-of Work-type.the-row) b-work o-work γ-work)) ∷ ‵ (finally Entry-type.the-row γ-list list-exit) ∷ ‵ (finally u8 γ-store store-exit) ∷ ‵ (Own-page page) ∷ ‵ (Own-key key) ∷ ‵ (Own-value value) ∷ []) ∵ k-suffices ! _ (ends-at 𝓤 H A own.ended stayed (own.clauses 𝓤 H A at-mem run) W (((κ₀, (κ₁, (κ₂, (κ₃, (κ₄, (κ₅, tt)))))), (q₀, (q₁, (q₂, (q₃, (q₄, (q₅, tt)))))), tt, the-args, the-vals), tt) w r (work-exit, (list-exit, (store-exit, (tt, (tt, (tt, (tt, (tt, tt)))))))) (tt, (len-list, (len-store, (tt, (tt, (tt, (tt, (tt, tt))))))))) $ k-says ! fact-of $ k-nothing ! $ k-move ! (6 ∷ 0 ∷ []) $ k-join ! $ k-move ! (5 ∷ 0 ∷ []) $ k-join ! $ k-move ! (4 ∷ 0 ∷ []) $ k-join ! $ k-move ! (3 ∷ 0 ∷ []) $ k-join ! $ k-move ! (2 ∷ 0 ∷ []) $ k-join ! $ k-move ! (1 ∷ 0 ∷ []) $ k-join ! $ k-frame ! $ k-nothing ! $ k-move ! (7 ∷ 0 ∷ []) $ k-fjoin ! $ k-owned ! u8 (Is u8) (uint-makes 𝓤 H A W w8) flag _ (refl, flag-fits) $ k-fjoin ! $ k-owned ! u8 (Is u8) (uint-makes 𝓤 H A W w8) put _ (refl, put-fits) $ k-fjoin ! $ k-move ! (6 ∷ 0 ∷ []) $ k-fjoin ! $ k-move ! (5 ∷ 0 ∷ []) $ k-fjoin ! $ k-move ! (4 ∷ 0 ∷ []) $ k-fjoin ! $ k-move ! (3 ∷ 0 ∷ []) $ k-fjoin ! $ k-move ! (1 ∷ 2 ∷ 0 ∷ []) $ k-feqI ! (List Val) (sv-work ∷ []) (sv-work ∷ []) refl $ k-fjoin3 ! $ k-fjoin ! $ k-owned ! LeafReport-type.the-row (Is LeafReport-type.the-row) (LL.makes LeafReport-type.the-type LeafReport-laws.the-plain 𝓤 H A) r _ is $ k-move ! (1 ∷ 0 ∷ []) $ k-done !
 
   module _ (𝓣 : Tables 𝓤 H) (known₁ : Triple 𝓤 (𝓣 .C #leaf-step·start) (Callee₁ 𝓤 H A at-mem run)) (known₂ : Triple 𝓤 (𝓣 .C #leaf-entries·pass-entries) (Callee₂ 𝓤 H A at-mem run)) (known₃ : Triple 𝓤 (𝓣 .C #leaf-take·ingest-step) (Callee₃ 𝓤 H A at-mem run)) (known₄ : Triple 𝓤 (𝓣 .C #leaf-entries·insert) (Callee₄ 𝓤 H A at-mem run)) where
     walk : ent 𝓤 (onEntry 𝓤 H A own.signature (κ₀, (κ₁, (κ₂, (κ₃, (κ₄, (κ₅, tt)))))) (q₀, (q₁, (q₂, (q₃, (q₄, (q₅, tt)))))) the-args the-vals) (WpFn 𝓤 H (𝓣 .C) (𝓣 .Λ) code.function (sv-work ∷ sv-list ∷ sv-store ∷ sv-page ∷ sv-key ∷ (vint w8 put) ∷ (vint w8 flag) ∷ sv-value ∷ []) Post)
@@ -291,6 +291,7 @@ module _ {M : Type 1} (𝓤 : URA M) (H : Heap 𝓤) (A : Atoms 𝓤) (W : Given
         use1 W (‵ (Own-page page) ⊛ ‵ (Own-page page)) (shr-slice-copy 𝓤 H A W (named 3) κ₃ u8 .twice (ref-page page) (sv-page ∷ [])) $ k-split ! $
         k-move ! (13 ∷ 0 ∷ []) $
         k-group ! 2 $ use1 W (raw ((Callee₁ 𝓤 H A at-mem run) .pre (to₁ 𝓤 H A W at-mem run κ₃ q₃ work (mach-Work work) b-page o-page γ-page page (length page)))) (asks₁ 𝓤 H A W at-mem run κ₃ q₃ work (mach-Work work) b-page o-page γ-page page (length page) is-work) $
+        stands W (_ ∷ _ ∷ _ ∷ _ ∷ _ ∷ _ ∷ _ ∷ _ ∷ _ ∷ _ ∷ _ ∷ _ ∷ _ ∷ _ ∷ _ ∷ []) (none ∷ has _ ∷ has _ ∷ has _ ∷ has _ ∷ has _ ∷ has _ ∷ has _ ∷ has _ ∷ none ∷ none ∷ none ∷ has _ ∷ []) $
         k-calls-at ! (fmOf 𝓤 H (W .laws) 𝓣) (Callee₁ 𝓤 H A at-mem run) known₁ (to₁ 𝓤 H A W at-mem run κ₃ q₃ work (mach-Work work) b-page o-page γ-page page (length page)) (k-and-then ! (k-load ! (k-from ! (k-stop !)) (k-look ! 35 refl)) (k-and-then ! (k-load ! (k-from ! (k-stop !)) (k-look ! 51 refl)) (k-no-more !))) (λ w₁.
         use1 W (later (k-some (λ (r₁ : Passing). ((‵ (flft κ₃ q₃) ⊛ ‵ ftrue) ⊛ ‵ (Passing-type.the-row .own r₁ (w₁ ∷ []))) ⊛ raw (ensured 𝓤 H A callee₁.ended (callee₁.clauses 𝓤 H A at-mem run) (κ₃, tt) (args₁ 𝓤 H A W at-mem run κ₃ q₃ work (mach-Work work) b-page o-page γ-page page (length page)) tt r₁)))) (id⊢ 𝓤 _) $ k-await ! tt $ k-pick ! (λ r₁.
         k-split ! $ k-move ! (1 ∷ []) $
@@ -302,7 +303,6 @@ module _ {M : Type 1} (𝓤 : URA M) (H : Heap 𝓤) (A : Atoms 𝓤) (W : Given
         k-drop ! $
         k-split ! $ k-move ! (1 ∷ []) $
         k-drop ! $
-        stands W (_ ∷ _ ∷ _ ∷ _ ∷ _ ∷ _ ∷ _ ∷ _ ∷ _ ∷ _ ∷ _ ∷ _ ∷ _ ∷ _ ∷ _ ∷ []) (none ∷ has _ ∷ has _ ∷ has _ ∷ has _ ∷ has _ ∷ has _ ∷ has _ ∷ has _ ∷ has _ ∷ none ∷ none ∷ has _ ∷ []) $
         k-assigns ! (k-addr ! (k-from ! (k-fld ! refl (k-hop ! (k-look-in ! 55 (k-sub ! 0 refl (k-whole !))) (k-stop !))))) (k-from ! (k-stop !)) (k-init ! 33 refl (tt, tt)) $
         k-assigns ! (k-agg ! (k-and-then ! (k-load ! (k-from ! (k-stop !)) (k-look ! 33 refl)) (k-and-then ! (k-load ! (k-from ! (k-fld ! refl (k-stop !))) (k-look-in ! 55 (k-sub ! 1 refl (k-whole !)))) (k-no-more !)))) (k-from ! (k-stop !)) (k-init ! 31 refl (tt, (tt, (record { fits = room-list .0 }, tt)))) $
         k-lft-new ! tt (λ ν-list₂.
@@ -312,6 +312,7 @@ module _ {M : Type 1} (𝓤 : URA M) (H : Heap 𝓤) (A : Atoms 𝓤) (W : Given
         use1 W (‵ (Own-page page) ⊛ ‵ (Own-page page)) (shr-slice-copy 𝓤 H A W (named 3) κ₃ u8 .twice (ref-page page) (sv-page ∷ [])) $ k-split ! $
         k-move ! (4 ∷ 5 ∷ 2 ∷ 0 ∷ []) $
         k-group ! 4 $ use1 W (raw ((Callee₂ 𝓤 H A at-mem run) .pre (to₂ 𝓤 H A W at-mem run (ν-list₂ ∷ []) fullShare κ₃ q₃ b-list o-list δ-list₂ list (length list) b-page o-page γ-page page (length page) r₁ w₁))) (asks₂ 𝓤 H A W at-mem run (ν-list₂ ∷ []) fullShare κ₃ q₃ b-list o-list δ-list₂ list (length list) b-page o-page γ-page page (length page) r₁ w₁ is₁ (f₁ .1)) $
+        stands W (_ ∷ _ ∷ _ ∷ _ ∷ _ ∷ _ ∷ _ ∷ _ ∷ _ ∷ _ ∷ _ ∷ _ ∷ _ ∷ _ ∷ []) (none ∷ has _ ∷ has _ ∷ has _ ∷ has _ ∷ has _ ∷ has _ ∷ has _ ∷ has _ ∷ has _ ∷ none ∷ none ∷ has _ ∷ has _ ∷ has _ ∷ []) $
         k-calls-at ! (fmOf 𝓤 H (W .laws) 𝓣) (Callee₂ 𝓤 H A at-mem run) known₂ (to₂ 𝓤 H A W at-mem run (ν-list₂ ∷ []) fullShare κ₃ q₃ b-list o-list δ-list₂ list (length list) b-page o-page γ-page page (length page) r₁ w₁) (k-and-then ! (k-load ! (k-from ! (k-stop !)) (k-look ! 30 refl)) (k-and-then ! (k-load ! (k-from ! (k-stop !)) (k-look ! 50 refl)) (k-and-then ! (k-load ! (k-from ! (k-stop !)) (k-look ! 40 refl)) (k-no-more !)))) (λ w₂.
         use1 W (later (k-some (λ (r₂ : Passing). ((‵ (flft (ν-list₂ ∷ []) fullShare) ⊛ ‵ (flft κ₃ q₃) ⊛ ‵ ftrue) ⊛ ‵ (Passing-type.the-row .own r₂ (w₂ ∷ []))) ⊛ raw (ensured 𝓤 H A callee₂.ended (callee₂.clauses 𝓤 H A at-mem run) (ν-list₂ ∷ [], (κ₃, tt)) (args₂ 𝓤 H A W at-mem run (ν-list₂ ∷ []) fullShare κ₃ q₃ b-list o-list δ-list₂ list (length list) b-page o-page γ-page page (length page) r₁ w₁) tt r₂)))) (id⊢ 𝓤 _) $ k-await ! tt $ k-pick ! (λ r₂.
         k-split ! $ k-move ! (1 ∷ []) $
@@ -328,26 +329,23 @@ module _ {M : Type 1} (𝓤 : URA M) (H : Heap 𝓤) (A : Atoms 𝓤) (W : Given
         k-lft-end ! tt $
         k-move ! (0 ∷ 3 ∷ []) $
         use2 W (later (‵ (Own-list list) ⊛ ‵ (flft κ₁ q₁))) (shared-back-at Entry-type.the-row κ₁ (ν-list₂ ∷ []) q₁ γ-list b-list o-list 𝓤 H A W (named 1) (named 0) list (length list) refl room-list) $ k-await ! tt $ k-split ! $
-        stands W (_ ∷ _ ∷ _ ∷ _ ∷ _ ∷ _ ∷ _ ∷ _ ∷ _ ∷ _ ∷ _ ∷ _ ∷ _ ∷ _ ∷ _ ∷ []) (none ∷ has _ ∷ has _ ∷ has _ ∷ has _ ∷ has _ ∷ has _ ∷ has _ ∷ has _ ∷ has _ ∷ has _ ∷ none ∷ has _ ∷ has _ ∷ has _ ∷ []) $
         k-assigns ! (k-of-opd ! (k-load ! (k-from ! (k-hop ! (k-look ! 57 refl) (k-stop !))) (k-look-raw ! 5 refl))) (k-from ! (k-stop !)) (k-store ! 35 refl (LL.lawful Work-type.the-type Work-laws.the-laws 𝓤 H A W .typed work _ is-work .0)) $
         k-assigns ! (k-of-opd ! (k-load ! (k-from ! (k-fld ! refl (k-stop !))) (k-look-in ! 55 (k-sub ! 1 refl (k-whole !))))) (k-from ! (k-stop !)) (k-init ! 29 refl (tt, record { fits = room-list .0 })) $
         k-assigns ! (k-addr ! (k-from ! (k-fld ! refl (k-hop ! (k-look-in ! 53 (k-sub ! 0 refl (k-whole !))) (k-stop !))))) (k-from ! (k-stop !)) (k-init ! 27 refl (tt, tt)) $
         k-assigns ! (k-agg ! (k-and-then ! (k-load ! (k-from ! (k-stop !)) (k-look ! 27 refl)) (k-and-then ! (k-load ! (k-from ! (k-fld ! refl (k-stop !))) (k-look-in ! 53 (k-sub ! 1 refl (k-whole !)))) (k-no-more !)))) (k-from ! (k-stop !)) (k-init ! 25 refl (tt, (tt, (record { fits = room-store .0 }, tt)))) $
-        k-lft-new ! tt (λ ν-store₃.
-        k-move ! (12 ∷ 15 ∷ []) $
-        use2 W (later (k-some (λ (δ : GName). ‵ (MutSlice (named 0) (ν-store₃ ∷ []) u8 .own (record { ptr = (b-store, o-store); name = δ; now = store }) (sv-store ∷ [])) ⊛ ‵ (LentAgain u8 κ₂ (ν-store₃ ∷ []) q₂ γ-store b-store o-store δ store)))) (lends-again-at u8 κ₂ (ν-store₃ ∷ []) q₂ γ-store b-store o-store 𝓤 H A W (named 2) (named 0) store (length store) refl) $ k-await ! tt $ k-pick ! (λ δ-store₃. k-split ! $
-        k-move ! (6 ∷ []) $
+        k-move ! (3 ∷ []) $
         use1 W (‵ (Own-page page) ⊛ ‵ (Own-page page)) (shr-slice-copy 𝓤 H A W (named 3) κ₃ u8 .twice (ref-page page) (sv-page ∷ [])) $ k-split ! $
-        k-move ! (14 ∷ []) $
+        k-move ! (11 ∷ []) $
         use1 W (‵ (Own-key key) ⊛ ‵ (Own-key key)) (shr-copy 𝓤 H A W (named 4) κ₄ (Array u8 32) .twice (ref-key key) (sv-key ∷ [])) $ k-split ! $
-        k-move ! (15 ∷ []) $
+        k-move ! (12 ∷ []) $
         use1 W (‵ (Own-value value) ⊛ ‵ (Own-value value)) (shr-slice-copy 𝓤 H A W (named 5) κ₅ u8 .twice (ref-value value) (sv-value ∷ [])) $ k-split ! $
-        k-move ! (8 ∷ 11 ∷ 18 ∷ 17 ∷ 6 ∷ 4 ∷ 2 ∷ 0 ∷ []) $
-        k-group ! 8 $ use1 W (raw ((Callee₃ 𝓤 H A at-mem run) .pre (to₃ 𝓤 H A W at-mem run (ν-store₃ ∷ []) fullShare κ₃ q₃ κ₄ q₄ κ₅ q₅ work (mach-Work work) r₂ w₂ (length list) (vint w64 (length list)) b-store o-store δ-store₃ store (length store) b-page o-page γ-page page (length page) b-key o-key γ-key key put (vint w8 put) flag (vint w8 flag) b-value o-value γ-value value (length value)))) (asks₃ 𝓤 H A W at-mem run (ν-store₃ ∷ []) fullShare κ₃ q₃ κ₄ q₄ κ₅ q₅ work (mach-Work work) r₂ w₂ (length list) (vint w64 (length list)) b-store o-store δ-store₃ store (length store) b-page o-page γ-page page (length page) b-key o-key γ-key key put (vint w8 put) flag (vint w8 flag) b-value o-value γ-value value (length value) is-work is₂ (refl, room-list .0) (refl, put-fits) (refl, flag-fits) (record { list = list; long = refl; over = f₂ .0 ∙ ap (λ (y : Passing). passedOver page y list) (f₁ .0); on = f₂ .1 })) $
-        k-calls-at ! (fmOf 𝓤 H (W .laws) 𝓣) (Callee₃ 𝓤 H A at-mem run) known₃ (to₃ 𝓤 H A W at-mem run (ν-store₃ ∷ []) fullShare κ₃ q₃ κ₄ q₄ κ₅ q₅ work (mach-Work work) r₂ w₂ (length list) (vint w64 (length list)) b-store o-store δ-store₃ store (length store) b-page o-page γ-page page (length page) b-key o-key γ-key key put (vint w8 put) flag (vint w8 flag) b-value o-value γ-value value (length value)) (k-and-then ! (k-load ! (k-from ! (k-stop !)) (k-look ! 32 refl)) (k-and-then ! (k-load ! (k-from ! (k-stop !)) (k-look ! 36 refl)) (k-and-then ! (k-load ! (k-from ! (k-stop !)) (k-look ! 26 refl)) (k-and-then ! (k-load ! (k-from ! (k-stop !)) (k-look ! 22 refl)) (k-and-then ! (k-load ! (k-from ! (k-stop !)) (k-look ! 48 refl)) (k-and-then ! (k-load ! (k-from ! (k-stop !)) (k-look ! 46 refl)) (k-and-then ! (k-load ! (k-from ! (k-stop !)) (k-look ! 44 refl)) (k-and-then ! (k-load ! (k-from ! (k-stop !)) (k-look ! 42 refl)) (k-and-then ! (k-load ! (k-from ! (k-stop !)) (k-look ! 40 refl)) (k-no-more !)))))))))) (λ w₃.
-        use1 W (later (k-some (λ (r₃ : IngestStep). ((‵ (flft (ν-store₃ ∷ []) fullShare) ⊛ ‵ (flft κ₃ q₃) ⊛ ‵ (flft κ₄ q₄) ⊛ ‵ (flft κ₅ q₅) ⊛ ‵ ftrue) ⊛ ‵ (IngestStep-type.the-row .own r₃ (w₃ ∷ []))) ⊛ raw (ensured 𝓤 H A callee₃.ended (callee₃.clauses 𝓤 H A at-mem run) (ν-store₃ ∷ [], (κ₃, (κ₄, (κ₅, tt)))) (args₃ 𝓤 H A W at-mem run (ν-store₃ ∷ []) fullShare κ₃ q₃ κ₄ q₄ κ₅ q₅ work (mach-Work work) r₂ w₂ (length list) (vint w64 (length list)) b-store o-store δ-store₃ store (length store) b-page o-page γ-page page (length page) b-key o-key γ-key key put (vint w8 put) flag (vint w8 flag) b-value o-value γ-value value (length value)) tt r₃)))) (id⊢ 𝓤 _) $ k-await ! tt $ k-pick ! (λ r₃.
+        k-move ! (17 ∷ 8 ∷ 16 ∷ 15 ∷ 14 ∷ 4 ∷ 2 ∷ 0 ∷ []) $
+        k-group ! 8 $ use1 W (raw ((Callee₃ 𝓤 H A at-mem run) .pre (to₃ 𝓤 H A W at-mem run κ₂ q₂ κ₃ q₃ κ₄ q₄ κ₅ q₅ work (mach-Work work) r₂ w₂ (length list) (vint w64 (length list)) b-store o-store γ-store store (length store) b-page o-page γ-page page (length page) b-key o-key γ-key key put (vint w8 put) flag (vint w8 flag) b-value o-value γ-value value (length value)))) (asks₃ 𝓤 H A W at-mem run κ₂ q₂ κ₃ q₃ κ₄ q₄ κ₅ q₅ work (mach-Work work) r₂ w₂ (length list) (vint w64 (length list)) b-store o-store γ-store store (length store) b-page o-page γ-page page (length page) b-key o-key γ-key key put (vint w8 put) flag (vint w8 flag) b-value o-value γ-value value (length value) is-work is₂ (refl, room-list .0) (refl, put-fits) (refl, flag-fits) (record { list = list; long = refl; over = f₂ .0 ∙ ap (λ (y : Passing). passedOver page y list) (f₁ .0); on = f₂ .1 })) $
+        stands W (_ ∷ _ ∷ _ ∷ _ ∷ _ ∷ _ ∷ _ ∷ _ ∷ _ ∷ _ ∷ _ ∷ []) (none ∷ has _ ∷ has _ ∷ has _ ∷ has _ ∷ has _ ∷ has _ ∷ has _ ∷ has _ ∷ has _ ∷ has _ ∷ none ∷ has _ ∷ has _ ∷ has _ ∷ has _ ∷ has _ ∷ has _ ∷ []) $
+        k-calls-at ! (fmOf 𝓤 H (W .laws) 𝓣) (Callee₃ 𝓤 H A at-mem run) known₃ (to₃ 𝓤 H A W at-mem run κ₂ q₂ κ₃ q₃ κ₄ q₄ κ₅ q₅ work (mach-Work work) r₂ w₂ (length list) (vint w64 (length list)) b-store o-store γ-store store (length store) b-page o-page γ-page page (length page) b-key o-key γ-key key put (vint w8 put) flag (vint w8 flag) b-value o-value γ-value value (length value)) (k-and-then ! (k-load ! (k-from ! (k-stop !)) (k-look ! 31 refl)) (k-and-then ! (k-load ! (k-from ! (k-stop !)) (k-look ! 35 refl)) (k-and-then ! (k-load ! (k-from ! (k-stop !)) (k-look ! 25 refl)) (k-and-then ! (k-load ! (k-from ! (k-stop !)) (k-look ! 21 refl)) (k-and-then ! (k-load ! (k-from ! (k-stop !)) (k-look ! 47 refl)) (k-and-then ! (k-load ! (k-from ! (k-stop !)) (k-look ! 45 refl)) (k-and-then ! (k-load ! (k-from ! (k-stop !)) (k-look ! 43 refl)) (k-and-then ! (k-load ! (k-from ! (k-stop !)) (k-look ! 41 refl)) (k-and-then ! (k-load ! (k-from ! (k-stop !)) (k-look ! 39 refl)) (k-no-more !)))))))))) (λ w₃.
+        use1 W (later (k-some (λ (r₃ : IngestStep). ((‵ (flft κ₂ q₂) ⊛ ‵ (flft κ₃ q₃) ⊛ ‵ (flft κ₄ q₄) ⊛ ‵ (flft κ₅ q₅) ⊛ ‵ ftrue) ⊛ ‵ (IngestStep-type.the-row .own r₃ (w₃ ∷ []))) ⊛ raw (ensured 𝓤 H A callee₃.ended (callee₃.clauses 𝓤 H A at-mem run) (κ₂, (κ₃, (κ₄, (κ₅, tt)))) (args₃ 𝓤 H A W at-mem run κ₂ q₂ κ₃ q₃ κ₄ q₄ κ₅ q₅ work (mach-Work work) r₂ w₂ (length list) (vint w64 (length list)) b-store o-store γ-store store (length store) b-page o-page γ-page page (length page) b-key o-key γ-key key put (vint w8 put) flag (vint w8 flag) b-value o-value γ-value value (length value)) tt r₃)))) (id⊢ 𝓤 _) $ k-await ! tt $ k-pick ! (λ r₃.
         k-split ! $ k-move ! (1 ∷ []) $
-        use1 W (k-some (λ (us : Unit {0} × (Unit {0} × (Unit {0} × (List ℕ × (Unit {0} × (Unit {0} × (Unit {0} × (Unit {0} × (Unit {0} × Unit {0}))))))))). ‵ (lasts callee₃.ended (ν-store₃ ∷ [], (κ₃, (κ₄, (κ₅, tt)))) (args₃ 𝓤 H A W at-mem run (ν-store₃ ∷ []) fullShare κ₃ q₃ κ₄ q₄ κ₅ q₅ work (mach-Work work) r₂ w₂ (length list) (vint w64 (length list)) b-store o-store δ-store₃ store (length store) b-page o-page γ-page page (length page) b-key o-key γ-key key put (vint w8 put) flag (vint w8 flag) b-value o-value γ-value value (length value)) us) ⊛ raw (fact 𝓤 (Said₃ 𝓤 H A W at-mem run work r₂ (length list) store page key put flag value r₃ (us .1 .1 .1 .0))))) (id⊢ 𝓤 _) $ k-pick ! (λ zs₃. k-split ! $ k-move ! (1 ∷ []) $
+        use1 W (k-some (λ (us : Unit {0} × (Unit {0} × (Unit {0} × (List ℕ × (Unit {0} × (Unit {0} × (Unit {0} × (Unit {0} × (Unit {0} × Unit {0}))))))))). ‵ (lasts callee₃.ended (κ₂, (κ₃, (κ₄, (κ₅, tt)))) (args₃ 𝓤 H A W at-mem run κ₂ q₂ κ₃ q₃ κ₄ q₄ κ₅ q₅ work (mach-Work work) r₂ w₂ (length list) (vint w64 (length list)) b-store o-store γ-store store (length store) b-page o-page γ-page page (length page) b-key o-key γ-key key put (vint w8 put) flag (vint w8 flag) b-value o-value γ-value value (length value)) us) ⊛ raw (fact 𝓤 (Said₃ 𝓤 H A W at-mem run work r₂ (length list) store page key put flag value r₃ (us .1 .1 .1 .0))))) (id⊢ 𝓤 _) $ k-pick ! (λ zs₃. k-split ! $ k-move ! (1 ∷ []) $
         k-heard ! (Said₃ 𝓤 H A W at-mem run work r₂ (length list) store page key put flag value r₃ (zs₃ .1 .1 .1 .0)) (λ f₃.
         let store-exit₃ = zs₃ .1 .1 .1 .0 in
         k-fsplit ! $ k-drop ! $
@@ -358,19 +356,14 @@ module _ {M : Type 1} (𝓤 : URA M) (H : Heap 𝓤) (A : Atoms 𝓤) (W : Given
         k-move ! (1 ∷ []) $
         k-split ! $ k-move ! (1 ∷ []) $
         k-peeks ! IngestStep-type.the-row (Is IngestStep-type.the-row) (shows 𝓤 H A IngestStep-type.the-row) r₃ (w₃ ∷ []) (λ is₃.
-        k-land ! (k-from ! (k-stop !)) (k-init ! 36 refl (LL.lawful IngestStep-type.the-type IngestStep-laws.the-laws 𝓤 H A W .typed r₃ _ is₃ .0)) $
-        k-rewrite ! 36 (λ (u : Val). ‵ (fat fullShare (tyAt piece.locals 11) l₁₁ 0 u)) (ap only ((LL.tells IngestStep-type.the-type IngestStep-laws.the-laws) r₃ _ is₃)) refl $
+        k-land ! (k-from ! (k-stop !)) (k-init ! 35 refl (LL.lawful IngestStep-type.the-type IngestStep-laws.the-laws 𝓤 H A W .typed r₃ _ is₃ .0)) $
+        k-rewrite ! 35 (λ (u : Val). ‵ (fat fullShare (tyAt piece.locals 11) l₁₁ 0 u)) (ap only ((LL.tells IngestStep-type.the-type IngestStep-laws.the-laws) r₃ _ is₃)) refl $
         k-drop ! $
         k-split ! $ k-move ! (1 ∷ []) $
         k-split ! $ k-move ! (1 ∷ []) $
         k-split ! $ k-move ! (1 ∷ []) $
         k-split ! $ k-move ! (1 ∷ []) $
         k-drop ! $
-        k-move ! (3 ∷ []) $
-        k-lft-end ! tt $
-        k-move ! (0 ∷ 8 ∷ 4 ∷ []) $
-        use3 W (later (‵ (Own-store (zs₃ .1 .1 .1 .0)) ⊛ ‵ (flft κ₂ q₂))) (comes-back-at u8 κ₂ (ν-store₃ ∷ []) q₂ γ-store b-store o-store 𝓤 H A W (named 2) (named 0) store (length store) refl δ-store₃ (zs₃ .1 .1 .1 .0) room-store len-store₃) $ k-await ! tt $ k-split ! $
-        stands W (_ ∷ _ ∷ _ ∷ _ ∷ _ ∷ _ ∷ _ ∷ _ ∷ _ ∷ _ ∷ _ ∷ _ ∷ _ ∷ _ ∷ _ ∷ []) (none ∷ has _ ∷ has _ ∷ has _ ∷ has _ ∷ has _ ∷ has _ ∷ has _ ∷ has _ ∷ has _ ∷ has _ ∷ has _ ∷ has _ ∷ has _ ∷ has _ ∷ has _ ∷ has _ ∷ has _ ∷ []) $
         k-assigns ! (k-addr ! (k-from ! (k-fld ! refl (k-hop ! (k-look-in ! 55 (k-sub ! 0 refl (k-whole !))) (k-stop !))))) (k-from ! (k-stop !)) (k-init ! 21 refl (tt, tt)) $
         k-assigns ! (k-agg ! (k-and-then ! (k-load ! (k-from ! (k-stop !)) (k-look ! 21 refl)) (k-and-then ! (k-load ! (k-from ! (k-fld ! refl (k-stop !))) (k-look-in ! 55 (k-sub ! 1 refl (k-whole !)))) (k-no-more !)))) (k-from ! (k-stop !)) (k-init ! 19 refl (tt, (tt, (record { fits = room-list .0 }, tt)))) $
         k-lft-new ! tt (λ ν-list₄.
@@ -378,6 +371,7 @@ module _ {M : Type 1} (𝓤 : URA M) (H : Heap 𝓤) (A : Atoms 𝓤) (W : Given
         use2 W (later (k-some (λ (δ : GName). ‵ (MutSlice (named 0) (ν-list₄ ∷ []) Entry-type.the-row .own (record { ptr = (b-list, o-list); name = δ; now = list }) (sv-list ∷ [])) ⊛ ‵ (LentAgain Entry-type.the-row κ₁ (ν-list₄ ∷ []) q₁ γ-list b-list o-list δ list)))) (lends-again-at Entry-type.the-row κ₁ (ν-list₄ ∷ []) q₁ γ-list b-list o-list 𝓤 H A W (named 1) (named 0) list (length list) refl) $ k-await ! tt $ k-pick ! (λ δ-list₄. k-split ! $
         k-move ! (2 ∷ 0 ∷ []) $
         k-group ! 2 $ use1 W (raw ((Callee₄ 𝓤 H A at-mem run) .pre (to₄ 𝓤 H A W at-mem run (ν-list₄ ∷ []) fullShare b-list o-list δ-list₄ list (length list) (r₃ .at) (vint w64 ((r₃ .at))) (r₃ .chunk) (mach-Entry ((r₃ .chunk)))))) (asks₄ 𝓤 H A W at-mem run (ν-list₄ ∷ []) fullShare b-list o-list δ-list₄ list (length list) (r₃ .at) (vint w64 ((r₃ .at))) (r₃ .chunk) (mach-Entry ((r₃ .chunk))) (LL.owed IngestStep-type.the-type IngestStep-laws.the-laws r₃ _ (subst (λ (u : Val). Is IngestStep-type.the-row r₃ (u ∷ [])) (ap only ((LL.tells IngestStep-type.the-type IngestStep-laws.the-laws) r₃ _ is₃)) is₃) .1 .1 .0) (LL.owed IngestStep-type.the-type IngestStep-laws.the-laws r₃ _ (subst (λ (u : Val). Is IngestStep-type.the-row r₃ (u ∷ [])) (ap only ((LL.tells IngestStep-type.the-type IngestStep-laws.the-laws) r₃ _ is₃)) is₃) .1 .1 .1 .0)) $
+        stands W (_ ∷ _ ∷ _ ∷ _ ∷ _ ∷ _ ∷ _ ∷ _ ∷ _ ∷ _ ∷ _ ∷ _ ∷ _ ∷ _ ∷ _ ∷ []) (none ∷ has _ ∷ has _ ∷ has _ ∷ has _ ∷ has _ ∷ has _ ∷ has _ ∷ has _ ∷ has _ ∷ has _ ∷ has _ ∷ has _ ∷ has _ ∷ has _ ∷ has _ ∷ has _ ∷ has _ ∷ none ∷ has _ ∷ has _ ∷ []) $
         k-calls-at ! (fmOf 𝓤 H (W .laws) 𝓣) (Callee₄ 𝓤 H A at-mem run) known₄ (to₄ 𝓤 H A W at-mem run (ν-list₄ ∷ []) fullShare b-list o-list δ-list₄ list (length list) (r₃ .at) (vint w64 ((r₃ .at))) (r₃ .chunk) (mach-Entry ((r₃ .chunk)))) (k-and-then ! (k-load ! (k-from ! (k-stop !)) (k-look ! 19 refl)) (k-and-then ! (k-load ! (k-from ! (k-fld ! {d = 240} refl (k-stop !))) (k-look-in ! 37 (k-sub ! 2 {d = 240} refl (k-whole !)))) (k-and-then ! (k-load ! (k-from ! (k-fld ! {d = 248} refl (k-stop !))) (k-look-in ! 37 (k-sub ! 3 {d = 248} refl (k-whole !)))) (k-no-more !)))) (λ w₄.
         use1 W (later (k-some (λ (r₄ : Unit {0}). ((‵ (flft (ν-list₄ ∷ []) fullShare) ⊛ ‵ ftrue) ⊛ ‵ (Nothing .own r₄ (w₄ ∷ []))) ⊛ raw (ensured 𝓤 H A callee₄.ended (callee₄.clauses 𝓤 H A at-mem run) (ν-list₄ ∷ [], tt) (args₄ 𝓤 H A W at-mem run (ν-list₄ ∷ []) fullShare b-list o-list δ-list₄ list (length list) (r₃ .at) (vint w64 ((r₃ .at))) (r₃ .chunk) (mach-Entry ((r₃ .chunk)))) tt r₄)))) (id⊢ 𝓤 _) $ k-await ! tt $ k-pick ! (λ r₄.
         k-split ! $ k-move ! (1 ∷ []) $
@@ -395,18 +389,15 @@ module _ {M : Type 1} (𝓤 : URA M) (H : Heap 𝓤) (A : Atoms 𝓤) (W : Given
         k-lft-end ! tt $
         k-move ! (0 ∷ 2 ∷ 1 ∷ []) $
         use3 W (later (‵ (Own-list (zs₄ .0)) ⊛ ‵ (flft κ₁ q₁))) (comes-back-at Entry-type.the-row κ₁ (ν-list₄ ∷ []) q₁ γ-list b-list o-list 𝓤 H A W (named 1) (named 0) list (length list) refl δ-list₄ (zs₄ .0) room-list len-list₄) $ k-await ! tt $ k-split ! $
-        stands W (_ ∷ _ ∷ _ ∷ _ ∷ _ ∷ _ ∷ _ ∷ _ ∷ _ ∷ _ ∷ _ ∷ _ ∷ _ ∷ _ ∷ _ ∷ []) (none ∷ has _ ∷ has _ ∷ has _ ∷ has _ ∷ has _ ∷ has _ ∷ has _ ∷ has _ ∷ has _ ∷ has _ ∷ has _ ∷ has _ ∷ has _ ∷ has _ ∷ has _ ∷ has _ ∷ has _ ∷ has _ ∷ has _ ∷ has _ ∷ []) $
         k-assigns ! (k-addr ! (k-from ! (k-fld ! refl (k-hop ! (k-look-in ! 55 (k-sub ! 0 refl (k-whole !))) (k-stop !))))) (k-from ! (k-stop !)) (k-init ! 17 refl (tt, tt)) $
         k-assigns ! (k-agg ! (k-and-then ! (k-load ! (k-from ! (k-stop !)) (k-look ! 17 refl)) (k-and-then ! (k-load ! (k-from ! (k-fld ! refl (k-stop !))) (k-look-in ! 55 (k-sub ! 1 refl (k-whole !)))) (k-no-more !)))) (k-from ! (k-stop !)) (k-init ! 15 refl (tt, (tt, (record { fits = room-list .0 }, tt)))) $
-        k-lft-new ! tt (λ ν-list₅.
-        k-move ! (1 ∷ 2 ∷ []) $
-        use2 W (later (k-some (λ (δ : GName). ‵ (MutSlice (named 0) (ν-list₅ ∷ []) Entry-type.the-row .own (record { ptr = (b-list, o-list); name = δ; now = ((zs₄ .0)) }) (sv-list ∷ [])) ⊛ ‵ (LentAgain Entry-type.the-row κ₁ (ν-list₅ ∷ []) q₁ γ-list b-list o-list δ ((zs₄ .0)))))) (lends-again-at Entry-type.the-row κ₁ (ν-list₅ ∷ []) q₁ γ-list b-list o-list 𝓤 H A W (named 1) (named 0) ((zs₄ .0)) (length list) len-list₄) $ k-await ! tt $ k-pick ! (λ δ-list₅. k-split ! $
-        k-move ! (2 ∷ 0 ∷ []) $
-        k-group ! 2 $ use1 W (raw ((Callee₄ 𝓤 H A at-mem run) .pre (to₄ 𝓤 H A W at-mem run (ν-list₅ ∷ []) fullShare b-list o-list δ-list₅ ((zs₄ .0)) (length list) (r₃ .next) (vint w64 ((r₃ .next))) (r₃ .insert) (mach-Entry ((r₃ .insert)))))) (asks₄ 𝓤 H A W at-mem run (ν-list₅ ∷ []) fullShare b-list o-list δ-list₅ ((zs₄ .0)) (length list) (r₃ .next) (vint w64 ((r₃ .next))) (r₃ .insert) (mach-Entry ((r₃ .insert))) (LL.owed IngestStep-type.the-type IngestStep-laws.the-laws r₃ _ (subst (λ (u : Val). Is IngestStep-type.the-row r₃ (u ∷ [])) (ap only ((LL.tells IngestStep-type.the-type IngestStep-laws.the-laws) r₃ _ is₃)) is₃) .1 .1 .1 .1 .0) (LL.owed IngestStep-type.the-type IngestStep-laws.the-laws r₃ _ (subst (λ (u : Val). Is IngestStep-type.the-row r₃ (u ∷ [])) (ap only ((LL.tells IngestStep-type.the-type IngestStep-laws.the-laws) r₃ _ is₃)) is₃) .1 .1 .1 .1 .1 .0)) $
-        k-calls-at ! (fmOf 𝓤 H (W .laws) 𝓣) (Callee₄ 𝓤 H A at-mem run) known₄ (to₄ 𝓤 H A W at-mem run (ν-list₅ ∷ []) fullShare b-list o-list δ-list₅ ((zs₄ .0)) (length list) (r₃ .next) (vint w64 ((r₃ .next))) (r₃ .insert) (mach-Entry ((r₃ .insert)))) (k-and-then ! (k-load ! (k-from ! (k-stop !)) (k-look ! 15 refl)) (k-and-then ! (k-load ! (k-from ! (k-fld ! {d = 312} refl (k-stop !))) (k-look-in ! 37 (k-sub ! 4 {d = 312} refl (k-whole !)))) (k-and-then ! (k-load ! (k-from ! (k-fld ! {d = 320} refl (k-stop !))) (k-look-in ! 37 (k-sub ! 5 {d = 320} refl (k-whole !)))) (k-no-more !)))) (λ w₅.
-        use1 W (later (k-some (λ (r₅ : Unit {0}). ((‵ (flft (ν-list₅ ∷ []) fullShare) ⊛ ‵ ftrue) ⊛ ‵ (Nothing .own r₅ (w₅ ∷ []))) ⊛ raw (ensured 𝓤 H A callee₄.ended (callee₄.clauses 𝓤 H A at-mem run) (ν-list₅ ∷ [], tt) (args₄ 𝓤 H A W at-mem run (ν-list₅ ∷ []) fullShare b-list o-list δ-list₅ ((zs₄ .0)) (length list) (r₃ .next) (vint w64 ((r₃ .next))) (r₃ .insert) (mach-Entry ((r₃ .insert)))) tt r₅)))) (id⊢ 𝓤 _) $ k-await ! tt $ k-pick ! (λ r₅.
+        k-move ! (1 ∷ 0 ∷ []) $
+        k-group ! 2 $ use1 W (raw ((Callee₄ 𝓤 H A at-mem run) .pre (to₄ 𝓤 H A W at-mem run κ₁ q₁ b-list o-list γ-list ((zs₄ .0)) (length list) (r₃ .next) (vint w64 ((r₃ .next))) (r₃ .insert) (mach-Entry ((r₃ .insert)))))) (asks₄ 𝓤 H A W at-mem run κ₁ q₁ b-list o-list γ-list ((zs₄ .0)) (length list) (r₃ .next) (vint w64 ((r₃ .next))) (r₃ .insert) (mach-Entry ((r₃ .insert))) (LL.owed IngestStep-type.the-type IngestStep-laws.the-laws r₃ _ (subst (λ (u : Val). Is IngestStep-type.the-row r₃ (u ∷ [])) (ap only ((LL.tells IngestStep-type.the-type IngestStep-laws.the-laws) r₃ _ is₃)) is₃) .1 .1 .1 .1 .0) (LL.owed IngestStep-type.the-type IngestStep-laws.the-laws r₃ _ (subst (λ (u : Val). Is IngestStep-type.the-row r₃ (u ∷ [])) (ap only ((LL.tells IngestStep-type.the-type IngestStep-laws.the-laws) r₃ _ is₃)) is₃) .1 .1 .1 .1 .1 .0)) $
+        stands W (_ ∷ _ ∷ _ ∷ _ ∷ _ ∷ _ ∷ _ ∷ _ ∷ _ ∷ _ ∷ _ ∷ _ ∷ _ ∷ _ ∷ []) (none ∷ has _ ∷ has _ ∷ has _ ∷ has _ ∷ has _ ∷ has _ ∷ has _ ∷ has _ ∷ has _ ∷ has _ ∷ has _ ∷ has _ ∷ has _ ∷ has _ ∷ has _ ∷ has _ ∷ has _ ∷ has _ ∷ has _ ∷ has _ ∷ has _ ∷ has _ ∷ []) $
+        k-calls-at ! (fmOf 𝓤 H (W .laws) 𝓣) (Callee₄ 𝓤 H A at-mem run) known₄ (to₄ 𝓤 H A W at-mem run κ₁ q₁ b-list o-list γ-list ((zs₄ .0)) (length list) (r₃ .next) (vint w64 ((r₃ .next))) (r₃ .insert) (mach-Entry ((r₃ .insert)))) (k-and-then ! (k-load ! (k-from ! (k-stop !)) (k-look ! 14 refl)) (k-and-then ! (k-load ! (k-from ! (k-fld ! {d = 312} refl (k-stop !))) (k-look-in ! 36 (k-sub ! 4 {d = 312} refl (k-whole !)))) (k-and-then ! (k-load ! (k-from ! (k-fld ! {d = 320} refl (k-stop !))) (k-look-in ! 36 (k-sub ! 5 {d = 320} refl (k-whole !)))) (k-no-more !)))) (λ w₅.
+        use1 W (later (k-some (λ (r₅ : Unit {0}). ((‵ (flft κ₁ q₁) ⊛ ‵ ftrue) ⊛ ‵ (Nothing .own r₅ (w₅ ∷ []))) ⊛ raw (ensured 𝓤 H A callee₄.ended (callee₄.clauses 𝓤 H A at-mem run) (κ₁, tt) (args₄ 𝓤 H A W at-mem run κ₁ q₁ b-list o-list γ-list ((zs₄ .0)) (length list) (r₃ .next) (vint w64 ((r₃ .next))) (r₃ .insert) (mach-Entry ((r₃ .insert)))) tt r₅)))) (id⊢ 𝓤 _) $ k-await ! tt $ k-pick ! (λ r₅.
         k-split ! $ k-move ! (1 ∷ []) $
-        use1 W (k-some (λ (us : List Entry × (Unit {0} × (Unit {0} × Unit {0}))). ‵ (lasts callee₄.ended (ν-list₅ ∷ [], tt) (args₄ 𝓤 H A W at-mem run (ν-list₅ ∷ []) fullShare b-list o-list δ-list₅ ((zs₄ .0)) (length list) (r₃ .next) (vint w64 ((r₃ .next))) (r₃ .insert) (mach-Entry ((r₃ .insert)))) us) ⊛ raw (fact 𝓤 (Said₄ 𝓤 H A W at-mem run (zs₄ .0) (r₃ .next) (r₃ .insert) r₅ (us .0))))) (id⊢ 𝓤 _) $ k-pick ! (λ zs₅. k-split ! $ k-move ! (1 ∷ []) $
+        use1 W (k-some (λ (us : List Entry × (Unit {0} × (Unit {0} × Unit {0}))). ‵ (lasts callee₄.ended (κ₁, tt) (args₄ 𝓤 H A W at-mem run κ₁ q₁ b-list o-list γ-list ((zs₄ .0)) (length list) (r₃ .next) (vint w64 ((r₃ .next))) (r₃ .insert) (mach-Entry ((r₃ .insert)))) us) ⊛ raw (fact 𝓤 (Said₄ 𝓤 H A W at-mem run (zs₄ .0) (r₃ .next) (r₃ .insert) r₅ (us .0))))) (id⊢ 𝓤 _) $ k-pick ! (λ zs₅. k-split ! $ k-move ! (1 ∷ []) $
         k-heard ! (Said₄ 𝓤 H A W at-mem run (zs₄ .0) (r₃ .next) (r₃ .insert) r₅ (zs₅ .0)) (λ f₅.
         let list-exit₅ = zs₅ .0 in
         k-fsplit ! $ k-fsplit ! $ k-move ! (1 ∷ []) $ k-feqL ! (λ len-list₅. k-move ! (1 ∷ []) $
@@ -414,13 +405,9 @@ module _ {M : Type 1} (𝓤 : URA M) (H : Heap 𝓤) (A : Atoms 𝓤) (W : Given
         k-move ! (1 ∷ []) $
         k-split ! $ k-move ! (1 ∷ []) $
         k-feqL ! (λ is₅.
-        k-land ! (k-from ! (k-stop !)) (k-store ! 24 refl (subst (λ (u : Val). Holds (hasTy tyUnit u) × WT u) (sym (ap only is₅)) (tt, tt))) $
+        k-land ! (k-from ! (k-stop !)) (k-store ! 23 refl (subst (λ (u : Val). Holds (hasTy tyUnit u) × WT u) (sym (ap only is₅)) (tt, tt))) $
         k-split ! $ k-move ! (1 ∷ []) $
         k-drop ! $
-        k-lft-end ! tt $
-        k-move ! (0 ∷ 2 ∷ 1 ∷ []) $
-        use3 W (later (‵ (Own-list (zs₅ .0)) ⊛ ‵ (flft κ₁ q₁))) (comes-back-at Entry-type.the-row κ₁ (ν-list₅ ∷ []) q₁ γ-list b-list o-list 𝓤 H A W (named 1) (named 0) ((zs₄ .0)) (length list) len-list₄ δ-list₅ (zs₅ .0) room-list (len-list₅ ∙ len-list₄)) $ k-await ! tt $ k-split ! $
-        stands W (_ ∷ _ ∷ _ ∷ _ ∷ _ ∷ _ ∷ _ ∷ _ ∷ _ ∷ _ ∷ _ ∷ _ ∷ _ ∷ _ ∷ _ ∷ []) (none ∷ has _ ∷ has _ ∷ has _ ∷ has _ ∷ has _ ∷ has _ ∷ has _ ∷ has _ ∷ has _ ∷ has _ ∷ has _ ∷ has _ ∷ has _ ∷ has _ ∷ has _ ∷ has _ ∷ has _ ∷ has _ ∷ has _ ∷ has _ ∷ has _ ∷ has _ ∷ []) $
         k-assigns ! (k-of-opd ! (k-load ! (k-from ! (k-fld ! {d = 24} refl (k-stop !))) (k-look-in ! 37 (k-sub ! 1 {d = 24} refl (k-whole !))))) (k-from ! (k-hop ! (k-look ! 57 refl) (k-stop !))) (k-store-raw ! 11 refl (LL.lawful Work-type.the-type Work-laws.the-laws 𝓤 H A W .typed ((r₃ .work)) _ (LL.owed IngestStep-type.the-type IngestStep-laws.the-laws r₃ _ (subst (λ (u : Val). Is IngestStep-type.the-row r₃ (u ∷ [])) (ap only ((LL.tells IngestStep-type.the-type IngestStep-laws.the-laws) r₃ _ is₃)) is₃) .1 .0) .0)) $
         k-assigns ! (k-of-opd ! (k-load ! (k-from ! (k-fld ! {d = 0} refl (k-stop !))) (k-look-in ! 37 (k-sub ! 0 {d = 0} refl (k-whole !))))) (k-from ! (k-stop !)) (k-init ! 59 refl (LL.lawful LeafReport-type.the-type LeafReport-laws.the-laws 𝓤 H A W .typed ((r₃ .reply)) _ (LL.owed IngestStep-type.the-type IngestStep-laws.the-laws r₃ _ (subst (λ (u : Val). Is IngestStep-type.the-row r₃ (u ∷ [])) (ap only ((LL.tells IngestStep-type.the-type IngestStep-laws.the-laws) r₃ _ is₃)) is₃) .0) .0)) $
         k-move ! (10 ∷ []) $
@@ -429,8 +416,8 @@ module _ {M : Type 1} (𝓤 : URA M) (H : Heap 𝓤) (A : Atoms 𝓤) (W : Given
         k-move ! (11 ∷ 0 ∷ 12 ∷ 13 ∷ 14 ∷ []) $
         k-closes ! tt Work-type.the-row (r₃ .work) ((mach-Work ((r₃ .work))) ∷ []) b-work o-work $
         k-returns ! (k-look ! 57 refl) $ all-freed W (_ ∷ _ ∷ _ ∷ _ ∷ _ ∷ _ ∷ _ ∷ _ ∷ _ ∷ _ ∷ _ ∷ _ ∷ _ ∷ []) (has _ ∷ has _ ∷ has _ ∷ has _ ∷ has _ ∷ has _ ∷ has _ ∷ has _ ∷ has _ ∷ has _ ∷ has _ ∷ has _ ∷ has _ ∷ has _ ∷ has _ ∷ has _ ∷ has _ ∷ has _ ∷ has _ ∷ has _ ∷ has _ ∷ has _ ∷ has _ ∷ []) $
-        k-keep ! (2 ∷ 4 ∷ 6 ∷ 9 ∷ 8 ∷ 7 ∷ 0 ∷ 1 ∷ 3 ∷ 5 ∷ 12 ∷ 11 ∷ 10 ∷ []) $
-        k-by ! (the-exit (r₃ .reply) (mach-LeafReport ((r₃ .reply))) (LL.owed IngestStep-type.the-type IngestStep-laws.the-laws r₃ _ (subst (λ (u : Val). Is IngestStep-type.the-row r₃ (u ∷ [])) (ap only ((LL.tells IngestStep-type.the-type IngestStep-laws.the-laws) r₃ _ is₃)) is₃) .0) ((r₃ .work)) ((zs₅ .0)) (len-list₅ ∙ len-list₄) ((zs₃ .1 .1 .1 .0)) len-store₃ (let steps = f₃ list refl (f₂ .0 ∙ ap (λ (y : Passing). passedOver page y list) (f₁ .0)) in (steps .reply-is, steps .work-is, f₅ ∙ ap (λ (l : List Entry). set l (r₃ .next) (r₃ .insert)) f₄ ∙ steps .list-is, steps .store-is))))))))))))))))))))))))))))))))))))))))))))))))))))))))))))))
+        k-keep ! (2 ∷ 3 ∷ 8 ∷ 7 ∷ 6 ∷ 5 ∷ 0 ∷ 1 ∷ 4 ∷ 9 ∷ 12 ∷ 11 ∷ 10 ∷ []) $
+        k-by ! (the-exit (r₃ .reply) (mach-LeafReport ((r₃ .reply))) (LL.owed IngestStep-type.the-type IngestStep-laws.the-laws r₃ _ (subst (λ (u : Val). Is IngestStep-type.the-row r₃ (u ∷ [])) (ap only ((LL.tells IngestStep-type.the-type IngestStep-laws.the-laws) r₃ _ is₃)) is₃) .0) ((r₃ .work)) ((zs₅ .0)) (len-list₅ ∙ len-list₄) ((zs₃ .1 .1 .1 .0)) len-store₃ (let steps = f₃ list refl (f₂ .0 ∙ ap (λ (y : Passing). passedOver page y list) (f₁ .0)) in (steps .reply-is, steps .work-is, f₅ ∙ ap (λ (l : List Entry). set l (r₃ .next) (r₃ .insert)) f₄ ∙ steps .list-is, steps .store-is))))))))))))))))))))))))))))))))))))))))))))))))))))))))))
 
 module _ {M : Type 1} (𝓤 : URA M) (H : Heap 𝓤) (A : Atoms 𝓤) (W : Given 𝓤 H A) (mem : Memory → SProp 𝓤) (run : Routine → Fun 𝓤) (𝓣 : Tables 𝓤 H) (known₁ : Triple 𝓤 (𝓣 .C #leaf-step·start) (Callee₁ 𝓤 H A mem run)) (known₂ : Triple 𝓤 (𝓣 .C #leaf-entries·pass-entries) (Callee₂ 𝓤 H A mem run)) (known₃ : Triple 𝓤 (𝓣 .C #leaf-take·ingest-step) (Callee₃ 𝓤 H A mem run)) (known₄ : Triple 𝓤 (𝓣 .C #leaf-entries·insert) (Callee₄ 𝓤 H A mem run)) where
   leaf-ingest-walks : Walks 𝓤 H A own.ended stayed (WpFn 𝓤 H (𝓣 .C) (𝓣 .Λ) code.function) (own.clauses 𝓤 H A mem run)
@@ -439,7 +426,7 @@ module _ {M : Type 1} (𝓤 : URA M) (H : Heap 𝓤) (A : Atoms 𝓤) (W : Given
       (λ κs qs bounds a g are. via 𝓤 _ (fst∗ 𝓤 _ (emp 𝓤)) (walk 𝓤 H A W mem run (κs .0) (κs .1 .0) (κs .1 .1 .0) (κs .1 .1 .1 .0) (κs .1 .1 .1 .1 .0) (κs .1 .1 .1 .1 .1 .0) (qs .0) (qs .1 .0) (qs .1 .1 .0) (qs .1 .1 .1 .0) (qs .1 .1 .1 .1 .0) (qs .1 .1 .1 .1 .1 .0) (a .0 .ptr .0) (a .0 .ptr .1) (a .0 .name) (a .0 .now) (a .1 .0 .ptr .0) (a .1 .0 .ptr .1) (a .1 .0 .name) (a .1 .0 .now) (are .1 .0 .0 .1) (a .1 .1 .0 .ptr .0) (a .1 .1 .0 .ptr .1) (a .1 .1 .0 .name) (a .1 .1 .0 .now) (are .1 .1 .0 .0 .1) (a .1 .1 .1 .0 .ptr .0) (a .1 .1 .1 .0 .ptr .1) (a .1 .1 .1 .0 .name) (a .1 .1 .1 .0 .now) (are .1 .1 .1 .0 .0 .1) (a .1 .1 .1 .1 .0 .ptr .0) (a .1 .1 .1 .1 .0 .ptr .1) (a .1 .1 .1 .1 .0 .name) (a .1 .1 .1 .1 .0 .now) (a .1 .1 .1 .1 .1 .0) (are .1 .1 .1 .1 .1 .0 .1) (a .1 .1 .1 .1 .1 .1 .0) (are .1 .1 .1 .1 .1 .1 .0 .1) (a .1 .1 .1 .1 .1 .1 .1 .0 .ptr .0) (a .1 .1 .1 .1 .1 .1 .1 .0 .ptr .1) (a .1 .1 .1 .1 .1 .1 .1 .0 .name) (a .1 .1 .1 .1 .1 .1 .1 .0 .now) (are .1 .1 .1 .1 .1 .1 .1 .0 .0 .1) 𝓣 known₁ known₂ known₃ known₄))
 
   leaf-ingest-meets : Meets 𝓤 H A own.signature (WpFn 𝓤 H (𝓣 .C) (𝓣 .Λ) code.function) (own.spec 𝓤 H A mem run)
-  leaf-ingest-meets = walk-meets 𝓤 H A own.ended stayed W (goes-ref 𝓤 H A W 6 0 tt (plain (λ _. Work-type.the-row)), (goes-slice 𝓤 H A W 6 1 tt (plain (λ _. Entry-type.the-row)), (goes-slice 𝓤 H A W 6 2 tt (plain (λ _. u8)), (goes-none-slice 𝓤 H A W 6 (3 ∷ []) tt (plain (λ _. u8)) yes, (goes-none-ref 𝓤 H A W 6 (4 ∷ []) tt (ArrayOf (plain (λ _. u8)) (λ _. tt) 32) yes, (goes-none 𝓤 H A W 6 (λ _. u8) yes (λ κs x f. refl), (goes-none 𝓤 H A W 6 (λ _. u8) yes (λ κs x f. refl), (goes-none-slice 𝓤 H A W 6 (5 ∷ []) tt (plain (λ _. u8)) yes, tt)))))))) (own.clauses 𝓤 H A mem run)
+  leaf-ingest-meets = walk-meets 𝓤 H A own.ended stayed W (goes-ref 𝓤 H A W 6 0 tt (plain (λ _. Work-type.the-row)), (goes-gave-slice 𝓤 H A W 6 1 tt (plain (λ _. Entry-type.the-row)), (goes-gave-slice 𝓤 H A W 6 2 tt (plain (λ _. u8)), (goes-none-slice 𝓤 H A W 6 (3 ∷ []) tt (plain (λ _. u8)) yes, (goes-none-ref 𝓤 H A W 6 (4 ∷ []) tt (ArrayOf (plain (λ _. u8)) (λ _. tt) 32) yes, (goes-none 𝓤 H A W 6 (λ _. u8) yes (λ κs x f. refl), (goes-none 𝓤 H A W 6 (λ _. u8) yes (λ κs x f. refl), (goes-none-slice 𝓤 H A W 6 (5 ∷ []) tt (plain (λ _. u8)) yes, tt)))))))) (own.clauses 𝓤 H A mem run)
       (WpFn 𝓤 H (𝓣 .C) (𝓣 .Λ) code.function) (WpFn-mono 𝓤 H (W .laws) 𝓣 code.function) leaf-ingest-walks
 
 pub leaf-ingest-spec : {M : Type 1} → stated.statement M

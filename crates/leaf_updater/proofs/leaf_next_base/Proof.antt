@@ -48,7 +48,7 @@ use Rattle.leaf_work.specs.Outcome.{replyNumber, Changed, nextBaseOf}
 use Rattle.leaf_step.specs.Over.{ClosedOver}
 use denote.Struct.Laws as LL
 use Rattle.leaf_entries.proofs.Locals.{tyAt}
-use Rattle.leaf_entries.proofs.Freed.{all-freed, stands, cells}
+use Rattle.leaf_entries.proofs.Freed.{all-freed, stands, sinks, cells}
 use Rattle.leaf_entries.proofs.Order.{lt-or-ge}
 use Rattle.leaf_entries.proofs.Again.{LentAgain, lends-again-at, comes-back-at}
 use Rattle.leaf_entries.proofs.Shared.{LentShared, shares-again-at, shared-back-at}
@@ -254,6 +254,7 @@ module _ {M : Type 1} (𝓤 : URA M) (H : Heap 𝓤) (A : Atoms 𝓤) (W : Given
         k-peeks ! Work-type.the-row (Is Work-type.the-row) (shows 𝓤 H A Work-type.the-row) work ((mach-Work work) ∷ []) (λ is-work.
         k-assigns ! (k-of-opd ! (k-load ! (k-from ! (k-hop ! (k-look ! 37 refl) (k-stop !))) (k-look-raw ! 1 refl))) (k-from ! (k-stop !)) (k-init ! 17 refl (LL.lawful Work-type.the-type Work-laws.the-laws 𝓤 H A W .typed work _ is-work .0)) $
         use0 W (raw ((Callee₁ 𝓤 H A at-mem run) .pre (to₁ 𝓤 H A W at-mem run work (mach-Work work)))) (asks₁ 𝓤 H A W at-mem run work (mach-Work work) is-work) $
+        stands W (_ ∷ _ ∷ _ ∷ _ ∷ _ ∷ _ ∷ _ ∷ _ ∷ _ ∷ _ ∷ _ ∷ _ ∷ _ ∷ _ ∷ _ ∷ _ ∷ []) (none ∷ has _ ∷ has _ ∷ has _ ∷ has _ ∷ has _ ∷ has _ ∷ has _ ∷ none ∷ none ∷ none ∷ has _ ∷ []) $
         k-calls-at ! (fmOf 𝓤 H (W .laws) 𝓣) (Callee₁ 𝓤 H A at-mem run) known₁ (to₁ 𝓤 H A W at-mem run work (mach-Work work)) (k-and-then ! (k-load ! (k-from ! (k-stop !)) (k-look ! 18 refl)) (k-no-more !)) (λ w₁.
         use1 W (later (k-some (λ (r₁ : Passing). (‵ ftrue ⊛ ‵ (Passing-type.the-row .own r₁ (w₁ ∷ []))) ⊛ raw (ensured 𝓤 H A callee₁.ended (callee₁.clauses 𝓤 H A at-mem run) tt (args₁ 𝓤 H A W at-mem run work (mach-Work work)) tt r₁)))) (id⊢ 𝓤 _) $ k-await ! tt $ k-pick ! (λ r₁.
         k-split ! $ k-move ! (1 ∷ []) $
@@ -264,13 +265,13 @@ module _ {M : Type 1} (𝓤 : URA M) (H : Heap 𝓤) (A : Atoms 𝓤) (W : Given
         k-land ! (k-from ! (k-stop !)) (k-init ! 25 refl (LL.lawful Passing-type.the-type Passing-laws.the-laws 𝓤 H A W .typed r₁ _ is₁ .0)) $
         k-drop ! $
         k-drop ! $
-        stands W (_ ∷ _ ∷ _ ∷ _ ∷ _ ∷ _ ∷ _ ∷ _ ∷ _ ∷ _ ∷ _ ∷ _ ∷ _ ∷ _ ∷ _ ∷ []) (none ∷ has _ ∷ has _ ∷ has _ ∷ has _ ∷ has _ ∷ has _ ∷ has _ ∷ has _ ∷ none ∷ none ∷ has _ ∷ []) $
         k-move ! (9 ∷ []) $
         use1 W (‵ (Own-list list) ⊛ ‵ (Own-list list)) (shr-slice-copy 𝓤 H A W (named 1) κ₁ Entry-type.the-row .twice (ref-list list) (sv-list ∷ [])) $ k-split ! $
         k-move ! (9 ∷ []) $
         use1 W (‵ (Own-page page) ⊛ ‵ (Own-page page)) (shr-slice-copy 𝓤 H A W (named 3) κ₃ u8 .twice (ref-page page) (sv-page ∷ [])) $ k-split ! $
         k-move ! (16 ∷ 14 ∷ 2 ∷ 0 ∷ []) $
         k-group ! 4 $ use1 W (raw ((Callee₂ 𝓤 H A at-mem run) .pre (to₂ 𝓤 H A W at-mem run κ₁ q₁ κ₃ q₃ b-list o-list γ-list list (length list) b-page o-page γ-page page (length page) r₁ w₁))) (asks₂ 𝓤 H A W at-mem run κ₁ q₁ κ₃ q₃ b-list o-list γ-list list (length list) b-page o-page γ-page page (length page) r₁ w₁ is₁ (f₁ .1 page)) $
+        stands W (_ ∷ _ ∷ _ ∷ _ ∷ _ ∷ _ ∷ _ ∷ _ ∷ _ ∷ _ ∷ _ ∷ _ ∷ _ ∷ _ ∷ []) (none ∷ has _ ∷ has _ ∷ has _ ∷ has _ ∷ has _ ∷ has _ ∷ has _ ∷ has _ ∷ none ∷ none ∷ has _ ∷ []) $
         k-calls-at ! (fmOf 𝓤 H (W .laws) 𝓣) (Callee₂ 𝓤 H A at-mem run) known₂ (to₂ 𝓤 H A W at-mem run κ₁ q₁ κ₃ q₃ b-list o-list γ-list list (length list) b-page o-page γ-page page (length page) r₁ w₁) (k-and-then ! (k-load ! (k-from ! (k-stop !)) (k-look ! 34 refl)) (k-and-then ! (k-load ! (k-from ! (k-stop !)) (k-look ! 30 refl)) (k-and-then ! (k-load ! (k-from ! (k-stop !)) (k-look ! 22 refl)) (k-no-more !)))) (λ w₂.
         use1 W (later (k-some (λ (r₂ : Passing). ((‵ (flft κ₁ q₁) ⊛ ‵ (flft κ₃ q₃) ⊛ ‵ ftrue) ⊛ ‵ (Passing-type.the-row .own r₂ (w₂ ∷ []))) ⊛ raw (ensured 𝓤 H A callee₂.ended (callee₂.clauses 𝓤 H A at-mem run) (κ₁, (κ₃, tt)) (args₂ 𝓤 H A W at-mem run κ₁ q₁ κ₃ q₃ b-list o-list γ-list list (length list) b-page o-page γ-page page (length page) r₁ w₁) tt r₂)))) (id⊢ 𝓤 _) $ k-await ! tt $ k-pick ! (λ r₂.
         k-split ! $ k-move ! (1 ∷ []) $
@@ -283,7 +284,6 @@ module _ {M : Type 1} (𝓤 : URA M) (H : Heap 𝓤) (A : Atoms 𝓤) (W : Given
         k-split ! $ k-move ! (1 ∷ []) $
         k-split ! $ k-move ! (1 ∷ []) $
         k-drop ! $
-        stands W (_ ∷ _ ∷ _ ∷ _ ∷ _ ∷ _ ∷ _ ∷ _ ∷ _ ∷ _ ∷ _ ∷ _ ∷ _ ∷ _ ∷ _ ∷ []) (none ∷ has _ ∷ has _ ∷ has _ ∷ has _ ∷ has _ ∷ has _ ∷ has _ ∷ has _ ∷ has _ ∷ none ∷ has _ ∷ []) $
         k-assigns ! (k-of-opd ! (k-load ! (k-from ! (k-hop ! (k-look ! 37 refl) (k-stop !))) (k-look-raw ! 5 refl))) (k-from ! (k-stop !)) (k-store ! 17 refl (LL.lawful Work-type.the-type Work-laws.the-laws 𝓤 H A W .typed work _ is-work .0)) $
         k-assigns ! (k-of-opd ! (k-load ! (k-from ! (k-fld ! refl (k-stop !))) (k-look-in ! 35 (k-sub ! 1 refl (k-whole !))))) (k-from ! (k-stop !)) (k-init ! 15 refl (tt, record { fits = room-list .0 })) $
         k-move ! (11 ∷ []) $
@@ -296,6 +296,7 @@ module _ {M : Type 1} (𝓤 : URA M) (H : Heap 𝓤) (A : Atoms 𝓤) (W : Given
         use1 W (‵ (Own-cutoff cutoff) ⊛ ‵ (Own-cutoff cutoff)) (shr-copy 𝓤 H A W (named 5) κ₅ (Array u8 32) .twice (ref-cutoff cutoff) (sv-cutoff ∷ [])) $ k-split ! $
         k-move ! (18 ∷ 8 ∷ 17 ∷ 16 ∷ 6 ∷ 4 ∷ 2 ∷ 0 ∷ []) $
         k-group ! 8 $ use1 W (raw ((Callee₃ 𝓤 H A at-mem run) .pre (to₃ 𝓤 H A W at-mem run κ₂ q₂ κ₃ q₃ κ₄ q₄ κ₅ q₅ work (mach-Work work) r₂ w₂ (length list) (vint w64 (length list)) b-store o-store γ-store store (length store) b-page o-page γ-page page (length page) b-separator o-separator γ-separator separator cut (vint w8 cut) b-cutoff o-cutoff γ-cutoff cutoff))) (asks₃ 𝓤 H A W at-mem run κ₂ q₂ κ₃ q₃ κ₄ q₄ κ₅ q₅ work (mach-Work work) r₂ w₂ (length list) (vint w64 (length list)) b-store o-store γ-store store (length store) b-page o-page γ-page page (length page) b-separator o-separator γ-separator separator cut (vint w8 cut) b-cutoff o-cutoff γ-cutoff cutoff is-work is₂ (refl, room-list .0) (refl, cut-fits) (record { list = list; page = page; long = refl; over = f₂ .0 ∙ ap (λ (y : Passing). passedOver page y list) (f₁ .0); on = f₂ .1 })) $
+        stands W (_ ∷ _ ∷ _ ∷ _ ∷ _ ∷ _ ∷ _ ∷ _ ∷ _ ∷ _ ∷ _ ∷ _ ∷ []) (none ∷ has _ ∷ has _ ∷ has _ ∷ has _ ∷ has _ ∷ has _ ∷ has _ ∷ has _ ∷ has _ ∷ none ∷ has _ ∷ has _ ∷ []) $
         k-calls-at ! (fmOf 𝓤 H (W .laws) 𝓣) (Callee₃ 𝓤 H A at-mem run) known₃ (to₃ 𝓤 H A W at-mem run κ₂ q₂ κ₃ q₃ κ₄ q₄ κ₅ q₅ work (mach-Work work) r₂ w₂ (length list) (vint w64 (length list)) b-store o-store γ-store store (length store) b-page o-page γ-page page (length page) b-separator o-separator γ-separator separator cut (vint w8 cut) b-cutoff o-cutoff γ-cutoff cutoff) (k-and-then ! (k-load ! (k-from ! (k-stop !)) (k-look ! 14 refl)) (k-and-then ! (k-load ! (k-from ! (k-stop !)) (k-look ! 18 refl)) (k-and-then ! (k-load ! (k-from ! (k-stop !)) (k-look ! 12 refl)) (k-and-then ! (k-load ! (k-from ! (k-stop !)) (k-look ! 30 refl)) (k-and-then ! (k-load ! (k-from ! (k-stop !)) (k-look ! 28 refl)) (k-and-then ! (k-load ! (k-from ! (k-stop !)) (k-look ! 26 refl)) (k-and-then ! (k-load ! (k-from ! (k-stop !)) (k-look ! 24 refl)) (k-and-then ! (k-load ! (k-from ! (k-stop !)) (k-look ! 22 refl)) (k-no-more !))))))))) (λ w₃.
         use1 W (later (k-some (λ (r₃ : Updated). ((‵ (flft κ₂ q₂) ⊛ ‵ (flft κ₃ q₃) ⊛ ‵ (flft κ₄ q₄) ⊛ ‵ (flft κ₅ q₅) ⊛ ‵ ftrue) ⊛ ‵ (Updated-type.the-row .own r₃ (w₃ ∷ []))) ⊛ raw (ensured 𝓤 H A callee₃.ended (callee₃.clauses 𝓤 H A at-mem run) (κ₂, (κ₃, (κ₄, (κ₅, tt)))) (args₃ 𝓤 H A W at-mem run κ₂ q₂ κ₃ q₃ κ₄ q₄ κ₅ q₅ work (mach-Work work) r₂ w₂ (length list) (vint w64 (length list)) b-store o-store γ-store store (length store) b-page o-page γ-page page (length page) b-separator o-separator γ-separator separator cut (vint w8 cut) b-cutoff o-cutoff γ-cutoff cutoff) tt r₃)))) (id⊢ 𝓤 _) $ k-await ! tt $ k-pick ! (λ r₃.
         k-split ! $ k-move ! (1 ∷ []) $
@@ -311,7 +312,6 @@ module _ {M : Type 1} (𝓤 : URA M) (H : Heap 𝓤) (A : Atoms 𝓤) (W : Given
         k-split ! $ k-move ! (1 ∷ []) $
         k-split ! $ k-move ! (1 ∷ []) $
         k-drop ! $
-        stands W (_ ∷ _ ∷ _ ∷ _ ∷ _ ∷ _ ∷ _ ∷ _ ∷ _ ∷ _ ∷ _ ∷ _ ∷ _ ∷ _ ∷ _ ∷ []) (none ∷ has _ ∷ has _ ∷ has _ ∷ has _ ∷ has _ ∷ has _ ∷ has _ ∷ has _ ∷ has _ ∷ has _ ∷ has _ ∷ has _ ∷ []) $
         k-assigns ! (k-of-opd ! (k-load ! (k-from ! (k-fld ! {d = 8} refl (k-stop !))) (k-look-in ! 19 (k-sub ! 1 {d = 8} refl (k-whole !))))) (k-from ! (k-hop ! (k-look ! 37 refl) (k-stop !))) (k-store-raw ! 11 refl (LL.lawful Work-type.the-type Work-laws.the-laws 𝓤 H A W .typed ((r₃ .work)) _ (LL.owed Updated-type.the-type Updated-laws.the-laws r₃ _ (subst (λ (u : Val). Is Updated-type.the-row r₃ (u ∷ [])) (ap only ((LL.tells Updated-type.the-type Updated-laws.the-laws) r₃ _ is₃)) is₃) .1 .0) .0)) $
         k-assigns ! (k-of-opd ! (k-load ! (k-from ! (k-fld ! {d = 0} refl (k-stop !))) (k-look-in ! 19 (k-sub ! 0 {d = 0} refl (k-whole !))))) (k-from ! (k-stop !)) (k-init ! 39 refl (tt, record { fits = (LL.owed Updated-type.the-type Updated-laws.the-laws r₃ _ (subst (λ (u : Val). Is Updated-type.the-row r₃ (u ∷ [])) (ap only ((LL.tells Updated-type.the-type Updated-laws.the-laws) r₃ _ is₃)) is₃) .0 .1) })) $
         k-move ! (10 ∷ []) $

@@ -46,7 +46,7 @@ use Rattle.leaf_work.specs.Outcome.{replyNumber, Changed, removeCutoffOf}
 use Rattle.leaf_step.specs.Over.{ClosedOver}
 use denote.Struct.Laws as LL
 use Rattle.leaf_entries.proofs.Locals.{tyAt}
-use Rattle.leaf_entries.proofs.Freed.{all-freed, stands, cells}
+use Rattle.leaf_entries.proofs.Freed.{all-freed, stands, sinks, cells}
 use Rattle.leaf_entries.proofs.Order.{lt-or-ge}
 use Rattle.leaf_entries.proofs.Again.{LentAgain, lends-again-at, comes-back-at}
 use Rattle.leaf_entries.proofs.Shared.{LentShared, shares-again-at, shared-back-at}

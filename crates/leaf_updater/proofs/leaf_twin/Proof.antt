@@ -43,7 +43,7 @@ use Rattle.leaf_passed.specs.Sought.{seekFrom, soughtOver}
 use Rattle.leaf_step.specs.Over.{SoughtOver}
 use denote.Struct.Laws as LL
 use Rattle.leaf_entries.proofs.Locals.{tyAt}
-use Rattle.leaf_entries.proofs.Freed.{all-freed, stands, cells}
+use Rattle.leaf_entries.proofs.Freed.{all-freed, stands, sinks, cells}
 use Rattle.leaf_entries.proofs.Order.{lt-or-ge}
 use Rattle.leaf_entries.proofs.Again.{LentAgain, lends-again-at, comes-back-at}
 use Rattle.leaf_entries.proofs.Shared.{LentShared, shares-again-at, shared-back-at}
@@ -263,6 +263,7 @@ module _ {M : Type 1} (𝓤 : URA M) (H : Heap 𝓤) (A : Atoms 𝓤) (W : Given
         use1 W (‵ (Own-page page) ⊛ ‵ (Own-page page)) (shr-slice-copy 𝓤 H A W (named 2) κ₂ u8 .twice (ref-page page) (sv-page ∷ [])) $ k-split ! $
         k-move ! (4 ∷ 0 ∷ []) $
         k-group ! 2 $ use1 W (raw ((Callee₁ 𝓤 H A at-mem run) .pre (to₁ 𝓤 H A W at-mem run κ₂ q₂ work (mach-Work work) b-page o-page γ-page page (length page)))) (asks₁ 𝓤 H A W at-mem run κ₂ q₂ work (mach-Work work) b-page o-page γ-page page (length page) is-work) $
+        stands W (_ ∷ _ ∷ _ ∷ _ ∷ _ ∷ _ ∷ []) (none ∷ has _ ∷ has _ ∷ has _ ∷ has _ ∷ has _ ∷ []) $
         k-calls-at ! (fmOf 𝓤 H (W .laws) 𝓣) (Callee₁ 𝓤 H A at-mem run) known₁ (to₁ 𝓤 H A W at-mem run κ₂ q₂ work (mach-Work work) b-page o-page γ-page page (length page)) (k-and-then ! (k-load ! (k-from ! (k-stop !)) (k-look ! 24 refl)) (k-and-then ! (k-load ! (k-from ! (k-stop !)) (k-look ! 18 refl)) (k-no-more !))) (λ w₁.
         use1 W (later (k-some (λ (r₁ : Passing). ((‵ (flft κ₂ q₂) ⊛ ‵ ftrue) ⊛ ‵ (Passing-type.the-row .own r₁ (w₁ ∷ []))) ⊛ raw (ensured 𝓤 H A callee₁.ended (callee₁.clauses 𝓤 H A at-mem run) (κ₂, tt) (args₁ 𝓤 H A W at-mem run κ₂ q₂ work (mach-Work work) b-page o-page γ-page page (length page)) tt r₁)))) (id⊢ 𝓤 _) $ k-await ! tt $ k-pick ! (λ r₁.
         k-split ! $ k-move ! (1 ∷ []) $
@@ -274,13 +275,13 @@ module _ {M : Type 1} (𝓤 : URA M) (H : Heap 𝓤) (A : Atoms 𝓤) (W : Given
         k-drop ! $
         k-split ! $ k-move ! (1 ∷ []) $
         k-drop ! $
-        stands W (_ ∷ _ ∷ _ ∷ _ ∷ _ ∷ _ ∷ []) (none ∷ has _ ∷ has _ ∷ has _ ∷ has _ ∷ has _ ∷ has _ ∷ []) $
         k-move ! (3 ∷ []) $
         use1 W (‵ (Own-list list) ⊛ ‵ (Own-list list)) (shr-slice-copy 𝓤 H A W (named 0) κ₀ Entry-type.the-row .twice (ref-list list) (sv-list ∷ [])) $ k-split ! $
         k-move ! (3 ∷ []) $
         use1 W (‵ (Own-page page) ⊛ ‵ (Own-page page)) (shr-slice-copy 𝓤 H A W (named 2) κ₂ u8 .twice (ref-page page) (sv-page ∷ [])) $ k-split ! $
         k-move ! (7 ∷ 4 ∷ 2 ∷ 0 ∷ []) $
         k-group ! 4 $ use1 W (raw ((Callee₂ 𝓤 H A at-mem run) .pre (to₂ 𝓤 H A W at-mem run κ₀ q₀ κ₂ q₂ b-list o-list γ-list list (length list) b-page o-page γ-page page (length page) r₁ w₁))) (asks₂ 𝓤 H A W at-mem run κ₀ q₀ κ₂ q₂ b-list o-list γ-list list (length list) b-page o-page γ-page page (length page) r₁ w₁ is₁ (f₁ .1)) $
+        stands W (_ ∷ _ ∷ _ ∷ _ ∷ _ ∷ []) (none ∷ has _ ∷ has _ ∷ has _ ∷ has _ ∷ has _ ∷ has _ ∷ []) $
         k-calls-at ! (fmOf 𝓤 H (W .laws) 𝓣) (Callee₂ 𝓤 H A at-mem run) known₂ (to₂ 𝓤 H A W at-mem run κ₀ q₀ κ₂ q₂ b-list o-list γ-list list (length list) b-page o-page γ-page page (length page) r₁ w₁) (k-and-then ! (k-load ! (k-from ! (k-stop !)) (k-look ! 21 refl)) (k-and-then ! (k-load ! (k-from ! (k-stop !)) (k-look ! 17 refl)) (k-and-then ! (k-load ! (k-from ! (k-stop !)) (k-look ! 13 refl)) (k-no-more !)))) (λ w₂.
         use1 W (later (k-some (λ (r₂ : Passing). ((‵ (flft κ₀ q₀) ⊛ ‵ (flft κ₂ q₂) ⊛ ‵ ftrue) ⊛ ‵ (Passing-type.the-row .own r₂ (w₂ ∷ []))) ⊛ raw (ensured 𝓤 H A callee₂.ended (callee₂.clauses 𝓤 H A at-mem run) (κ₀, (κ₂, tt)) (args₂ 𝓤 H A W at-mem run κ₀ q₀ κ₂ q₂ b-list o-list γ-list list (length list) b-page o-page γ-page page (length page) r₁ w₁) tt r₂)))) (id⊢ 𝓤 _) $ k-await ! tt $ k-pick ! (λ r₂.
         k-split ! $ k-move ! (1 ∷ []) $
@@ -293,8 +294,8 @@ module _ {M : Type 1} (𝓤 : URA M) (H : Heap 𝓤) (A : Atoms 𝓤) (W : Given
         k-split ! $ k-move ! (1 ∷ []) $
         k-split ! $ k-move ! (1 ∷ []) $
         k-drop ! $
-        stands W (_ ∷ _ ∷ _ ∷ _ ∷ _ ∷ _ ∷ []) (none ∷ has _ ∷ has _ ∷ has _ ∷ has _ ∷ has _ ∷ has _ ∷ has _ ∷ []) $
         use0 W (raw ((Callee₃ 𝓤 H A at-mem run) .pre (to₃ 𝓤 H A W at-mem run i′ (vint w64 i′)))) (asks₃ 𝓤 H A W at-mem run i′ (vint w64 i′) (refl, i′-fits)) $
+        stands W (_ ∷ _ ∷ _ ∷ _ ∷ _ ∷ _ ∷ _ ∷ []) (none ∷ has _ ∷ has _ ∷ has _ ∷ has _ ∷ has _ ∷ has _ ∷ has _ ∷ []) $
         k-calls-at ! (fmOf 𝓤 H (W .laws) 𝓣) (Callee₃ 𝓤 H A at-mem run) known₃ (to₃ 𝓤 H A W at-mem run i′ (vint w64 i′)) (k-and-then ! (k-load ! (k-from ! (k-stop !)) (k-look ! 17 refl)) (k-no-more !)) (λ w₃.
         use1 W (later (k-some (λ (r₃ : Seek). (‵ ftrue ⊛ ‵ (Seek-type.the-row .own r₃ (w₃ ∷ []))) ⊛ raw (ensured 𝓤 H A callee₃.ended (callee₃.clauses 𝓤 H A at-mem run) tt (args₃ 𝓤 H A W at-mem run i′ (vint w64 i′)) tt r₃)))) (id⊢ 𝓤 _) $ k-await ! tt $ k-pick ! (λ r₃.
         k-split ! $ k-move ! (1 ∷ []) $
@@ -305,11 +306,11 @@ module _ {M : Type 1} (𝓤 : URA M) (H : Heap 𝓤) (A : Atoms 𝓤) (W : Given
         k-land ! (k-from ! (k-stop !)) (k-init ! 10 refl (LL.lawful Seek-type.the-type Seek-laws.the-laws 𝓤 H A W .typed r₃ _ is₃ .0)) $
         k-drop ! $
         k-drop ! $
-        stands W (_ ∷ _ ∷ _ ∷ _ ∷ _ ∷ _ ∷ []) (none ∷ has _ ∷ has _ ∷ has _ ∷ has _ ∷ has _ ∷ has _ ∷ has _ ∷ none ∷ has _ ∷ []) $
         k-move ! (3 ∷ []) $
         use1 W (‵ (Own-list list) ⊛ ‵ (Own-list list)) (shr-slice-copy 𝓤 H A W (named 0) κ₀ Entry-type.the-row .twice (ref-list list) (sv-list ∷ [])) $ k-split ! $
         k-move ! (3 ∷ 0 ∷ []) $
         k-group ! 2 $ use1 W (raw ((Callee₄ 𝓤 H A at-mem run) .pre (to₄ 𝓤 H A W at-mem run κ₀ q₀ b-list o-list γ-list list (length list) r₃ w₃))) (asks₄ 𝓤 H A W at-mem run κ₀ q₀ b-list o-list γ-list list (length list) r₃ w₃ is₃) $
+        stands W (_ ∷ _ ∷ _ ∷ _ ∷ _ ∷ _ ∷ []) (none ∷ has _ ∷ has _ ∷ has _ ∷ has _ ∷ has _ ∷ has _ ∷ has _ ∷ none ∷ has _ ∷ []) $
         k-calls-at ! (fmOf 𝓤 H (W .laws) 𝓣) (Callee₄ 𝓤 H A at-mem run) known₄ (to₄ 𝓤 H A W at-mem run κ₀ q₀ b-list o-list γ-list list (length list) r₃ w₃) (k-and-then ! (k-load ! (k-from ! (k-stop !)) (k-look ! 22 refl)) (k-and-then ! (k-load ! (k-from ! (k-stop !)) (k-look ! 8 refl)) (k-no-more !))) (λ w₄.
         use1 W (later (k-some (λ (r₄ : Seek). ((‵ (flft κ₀ q₀) ⊛ ‵ ftrue) ⊛ ‵ (Seek-type.the-row .own r₄ (w₄ ∷ []))) ⊛ raw (ensured 𝓤 H A callee₄.ended (callee₄.clauses 𝓤 H A at-mem run) (κ₀, tt) (args₄ 𝓤 H A W at-mem run κ₀ q₀ b-list o-list γ-list list (length list) r₃ w₃) tt r₄)))) (id⊢ 𝓤 _) $ k-await ! tt $ k-pick ! (λ r₄.
         k-split ! $ k-move ! (1 ∷ []) $
@@ -321,7 +322,6 @@ module _ {M : Type 1} (𝓤 : URA M) (H : Heap 𝓤) (A : Atoms 𝓤) (W : Given
         k-drop ! $
         k-split ! $ k-move ! (1 ∷ []) $
         k-drop ! $
-        stands W (_ ∷ _ ∷ _ ∷ _ ∷ _ ∷ _ ∷ []) (none ∷ has _ ∷ has _ ∷ has _ ∷ has _ ∷ has _ ∷ has _ ∷ has _ ∷ has _ ∷ has _ ∷ []) $
         k-assigns ! (k-of-opd ! (k-load ! (k-from ! (k-fld ! refl (k-stop !))) (k-look-in ! 22 (k-sub ! 1 refl (k-whole !))))) (k-from ! (k-stop !)) (k-init ! 6 refl (tt, record { fits = room-list .0 })) $
         k-move ! (4 ∷ []) $
         use1 W (‵ (Own-store store) ⊛ ‵ (Own-store store)) (shr-slice-copy 𝓤 H A W (named 1) κ₁ u8 .twice (ref-store store) (sv-store ∷ [])) $ k-split ! $
@@ -329,6 +329,7 @@ module _ {M : Type 1} (𝓤 : URA M) (H : Heap 𝓤) (A : Atoms 𝓤) (W : Given
         use1 W (‵ (Own-page page) ⊛ ‵ (Own-page page)) (shr-slice-copy 𝓤 H A W (named 2) κ₂ u8 .twice (ref-page page) (sv-page ∷ [])) $ k-split ! $
         k-move ! (7 ∷ 6 ∷ 2 ∷ 0 ∷ []) $
         k-group ! 4 $ use1 W (raw ((Callee₅ 𝓤 H A at-mem run) .pre (to₅ 𝓤 H A W at-mem run κ₁ q₁ κ₂ q₂ work (mach-Work work) r₂ w₂ r₄ w₄ (length list) (vint w64 (length list)) b-store o-store γ-store store (length store) b-page o-page γ-page page (length page)))) (asks₅ 𝓤 H A W at-mem run κ₁ q₁ κ₂ q₂ work (mach-Work work) r₂ w₂ r₄ w₄ (length list) (vint w64 (length list)) b-store o-store γ-store store (length store) b-page o-page γ-page page (length page) is-work is₂ is₄ (refl, room-list .0) (record { i = i′; passed = record { list = list; long = refl; over = f₂ .0 ∙ ap (λ (y : Passing). passedOver page y list) (f₁ .0); on = f₂ .1 }; sought = f₄ ∙ ap (λ (y : Seek). soughtOver y list) f₃ })) $
+        stands W (_ ∷ _ ∷ _ ∷ _ ∷ _ ∷ []) (none ∷ has _ ∷ has _ ∷ has _ ∷ has _ ∷ has _ ∷ has _ ∷ has _ ∷ has _ ∷ has _ ∷ has _ ∷ []) $
         k-calls-at ! (fmOf 𝓤 H (W .laws) 𝓣) (Callee₅ 𝓤 H A at-mem run) known₅ (to₅ 𝓤 H A W at-mem run κ₁ q₁ κ₂ q₂ work (mach-Work work) r₂ w₂ r₄ w₄ (length list) (vint w64 (length list)) b-store o-store γ-store store (length store) b-page o-page γ-page page (length page)) (k-and-then ! (k-load ! (k-from ! (k-stop !)) (k-look ! 23 refl)) (k-and-then ! (k-load ! (k-from ! (k-stop !)) (k-look ! 11 refl)) (k-and-then ! (k-load ! (k-from ! (k-stop !)) (k-look ! 9 refl)) (k-and-then ! (k-load ! (k-from ! (k-stop !)) (k-look ! 5 refl)) (k-and-then ! (k-load ! (k-from ! (k-stop !)) (k-look ! 19 refl)) (k-and-then ! (k-load ! (k-from ! (k-stop !)) (k-look ! 17 refl)) (k-no-more !))))))) (λ w₅.
         use1 W (later (k-some (λ (r₅ : TwinPlace). ((‵ (flft κ₁ q₁) ⊛ ‵ (flft κ₂ q₂) ⊛ ‵ ftrue) ⊛ ‵ (TwinPlace-type.the-row .own r₅ (w₅ ∷ []))) ⊛ raw (ensured 𝓤 H A callee₅.ended (callee₅.clauses 𝓤 H A at-mem run) (κ₁, (κ₂, tt)) (args₅ 𝓤 H A W at-mem run κ₁ q₁ κ₂ q₂ work (mach-Work work) r₂ w₂ r₄ w₄ (length list) (vint w64 (length list)) b-store o-store γ-store store (length store) b-page o-page γ-page page (length page)) tt r₅)))) (id⊢ 𝓤 _) $ k-await ! tt $ k-pick ! (λ r₅.
         k-split ! $ k-move ! (1 ∷ []) $
@@ -341,7 +342,6 @@ module _ {M : Type 1} (𝓤 : URA M) (H : Heap 𝓤) (A : Atoms 𝓤) (W : Given
         k-split ! $ k-move ! (1 ∷ []) $
         k-split ! $ k-move ! (1 ∷ []) $
         k-drop ! $
-        stands W (_ ∷ _ ∷ _ ∷ _ ∷ _ ∷ _ ∷ []) (has _ ∷ has _ ∷ has _ ∷ has _ ∷ has _ ∷ has _ ∷ has _ ∷ has _ ∷ has _ ∷ has _ ∷ has _ ∷ []) $
         k-returns ! (k-look ! 26 refl) $ all-freed W (_ ∷ _ ∷ _ ∷ _ ∷ _ ∷ _ ∷ []) (has _ ∷ has _ ∷ has _ ∷ has _ ∷ has _ ∷ has _ ∷ has _ ∷ has _ ∷ has _ ∷ has _ ∷ has _ ∷ []) $
         k-keep ! (4 ∷ 1 ∷ 0 ∷ 5 ∷ 3 ∷ 2 ∷ []) $
         k-by ! (the-exit r₅ w₅ is₅ (f₅ list i′ refl (f₂ .0 ∙ ap (λ (y : Passing). passedOver page y list) (f₁ .0)) (f₄ ∙ ap (λ (y : Seek). soughtOver y list) f₃))))))))))))))))))))))))))))))))))

@@ -1,0 +1,2 @@
+-- What the functions answer and leave.
+pub mod Fill
