@@ -182,7 +182,7 @@ typedef struct {
  * The mode, one of enum LeafMode, stays until the work is opened again; any number but 0 is LEAF_REPORT_EVERY.
  * Answers 0 or the refusal. Leaves a new work record, and zeros in all of list and store, whatever all three held.
  * Refuses by: 1 to 5 for the base's page; 6; 7.
- * Stack: 960 bytes.
+ * Stack: 1,024 bytes.
  */
 uint8_t leaf_open(LeafWork *work, LeafEntry *list, size_t list_len, uint8_t *store, size_t store_len, uint8_t mode,
                   uint8_t based, const uint8_t *page, size_t page_len, const uint8_t separator[LEAF_KEY_SIZE],

@@ -1,8 +1,12 @@
 //! `compare stack SECONDS SEED`: how much stack each call uses at most over made-up calls, beside what include/leaf_updater.h says of it.
 
+use crate::ours::side::Library;
 use crate::ours::stack::{measure, Most};
 use crate::ours::work::SMALL_DIGEST;
+use crate::plain::digest::{asked, TICKET};
 use crate::random::{rounds, Tally};
+use crate::vectors::answers::Answer;
+use crate::vectors::calls::{Call, Change, Instead};
 use std::process::ExitCode;
 use std::time::Duration;
 
@@ -15,7 +19,10 @@ const SMALL_PART: usize = 20;
 /// Fails where a call uses more than the header says, or wasn't called.
 pub fn run(seconds: u64, seed: u64) -> ExitCode {
     let limit = Duration::from_secs(seconds);
-    let (outcome, most) = measure(|| rounds(limit, seed, &mut Tally::default()));
+    let (outcome, most) = measure(|| {
+        digest_of_many();
+        rounds(limit, seed, &mut Tally::default())
+    });
     if let Err(mismatch) = outcome {
         println!(
             "the sides differ at {}; run `compare random`",
@@ -43,6 +50,38 @@ pub fn run(seconds: u64, seed: u64) -> ExitCode {
         ExitCode::SUCCESS
     } else {
         ExitCode::FAILURE
+    }
+}
+
+/// A digest with many entries in use, which random calls meet too seldom to be counted on.
+fn digest_of_many() {
+    const RECORDS: usize = 200;
+    let mut library = Library::default();
+    let opening = Call::Open {
+        every: false,
+        base: None,
+        cutoff: None,
+        list: 4096,
+        store: 65536,
+    };
+    let ingests = (1..=RECORDS as u8).map(|first| Call::Ingest {
+        key: [first; 32],
+        change: Change::Put {
+            value: Vec::new(),
+            flag: false,
+        },
+        instead: Instead::default(),
+    });
+    let pages = asked(34 * RECORDS);
+    let digest = Call::Digest {
+        area: pages * 4096,
+        tickets: pages * TICKET,
+        instead: Instead::default(),
+    };
+    for call in [opening].into_iter().chain(ingests).chain([digest]) {
+        let answer = library.answer(&call);
+        let refused = matches!(answer, Err(_) | Ok(Answer::Refused(_)));
+        assert!(!refused, "{}: {answer:?}", call.line());
     }
 }
 
