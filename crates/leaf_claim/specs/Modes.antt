@@ -25,7 +25,8 @@ pub record InMode (m : ℕ) (s s′ : State) : Type 0 where
   pub given : s′ .given ≡ s .given
   pub tally : s′ .tally ≡ s .tally
 
--- of whole sequences: the calls were answered by the same numbers and gave the same leaves and tickets, and pending records are twins
+-- of whole sequences: the calls were answered by the same numbers and gave the same leaves and tickets, and the twin call answers the same of what
+-- they leave
 pub record DifferInMode (size m : ℕ) (c c′ : Course) : Type 0 where
   pub states : InMode m (c .now) (c′ .now)
   pub answers : map (λ x. x .answer) (c′ .past) ≡ map (λ x. x .answer) (c .past)
