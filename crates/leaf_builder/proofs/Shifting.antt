@@ -5,13 +5,16 @@ use mathlib.Core.List.{List, _++_, append-assoc}
 use native.Mathlib.Omega.{arith}
 use native.Mathlib.Decide.{decLe}
 use lib.Dec.{leb}
-use lib.ListN.{length, take, drop, length-append, length-take, length-drop, take-append-drop}
-use lib.Seq.{length-take-le, take-at, drop-at, drop-drop}
+use lib.ListN.{length, take, drop, replicate, length-append, length-take, length-drop, take-append-drop}
+use lib.Seq.{paste, length-take-le, take-at, drop-at, drop-drop}
 use borrow.Author.Tests.{le-leb, lt-leb}
+use Rattle.bit_ops.specs.Key.{Bytes}
 use Rattle.leaf_node.specs.Page.{count, pointer, keyAt, numberAt, offsetAt, flagAt, start, recordAt, recordsBetween}
 use Rattle.leaf_node.specs.Build.{le16, tagged, pointers, put}
 use Rattle.leaf_node.proofs.Lengths.{length-pointers, pointers-append, run-append}
 use Rattle.leaf_node.proofs.Laying.{keys-have-32-bytes, range-length}
+use Rattle.leaf_node.proofs.Copying.{put-all}
+use Rattle.leaf_node.proofs.RoundTrips.{pointers-of-a-range-are-one-part}
 use Rattle.leaf_builder.specs.Steps.{Shift, Chunk, pointerMoved, PointersUpTo}
 use Rattle.leaf_builder.proofs.Putting.{length-put, put-stands, put-put, put-is, put-parts}
 use Rattle.leaf_builder.proofs.Writing.{pointers-start, pointers-more}
@@ -29,15 +32,16 @@ pub key-has-32-bytes : (p : List ℕ) (i m place first at : ℕ) → Shift p i m
 unfolding keyAt
 key-has-32-bytes p i m place first at s = simp (length-take, length-drop) (omega (arith, s .inside))
 
-pub pointer-put : (p d k x y : List ℕ) (i place first at w : ℕ) → Shift p i (length d) place first at → k ≡ keyAt p i → x ≡ put d place k → w ≡ numberAt p i → w < 65536
-    → y ≡ put x (place + 32) (le16 (w + at - first)) → y ≡ put d place (pointerMoved p i first at)
+pub pointer-put : (p d k l x y : List ℕ) (i place first at w : ℕ) → Shift p i (length d) place first at → k ≡ keyAt p i → l ≡ put (replicate 32 0) 0 k → x ≡ put d place l
+    → w ≡ numberAt p i → w < 65536 → y ≡ put x (place + 32) (le16 (w + at - first)) → y ≡ put d place (pointerMoved p i first at)
 unfolding offsetAt flagAt
-pointer-put p d k x y i place first at w s ek ex ew h ey =
+pointer-put p d k l x y i place first at w s ek el ex ew h ey =
     let n : w + at - first ≡ tagged (at + (numberAt p i % 32768 - first)) (leb 32768 (numberAt p i)) =
     number-shifted w at first h (omega (arith, s .order)) (omega (arith, s .small)) ∙ rw ew in
     let number : List ℕ = le16 (tagged (at + (offsetAt p i - first)) (flagAt p i)) in
     let lk : length (keyAt p i) ≡ 32 = key-has-32-bytes p i (length d) place first at s in
-    ey ∙ rw (n, ex, ek) (put-put d place (keyAt p i) (place + 32) number (omega arith) (omega (arith, s .room)))
+    let whole : l ≡ keyAt p i = el ∙ put-all (replicate 32 0) k (rw ek lk) ∙ ek in
+    ey ∙ rw (n, ex, whole) (put-put d place (keyAt p i) (place + 32) number (omega arith) (omega (arith, s .room)))
 
 -- ---- the pointers of the records before i
 
@@ -103,3 +107,31 @@ pub all-pointers : (p d x : List ℕ) (from to j at i : ℕ) → Chunk p from to
 all-pointers p d x from to j at i c h l u =
     let e : i ≡ to = omega arith in
     up-to-is-put p d from to j at c to (c .order) (omega arith) x (subst (λ (n : ℕ). PointersUpTo p from to j at d n x) e u)
+
+-- ---- values that stay: one copy, byte by byte
+
+module _ (p d : List ℕ) (from to j at : ℕ) (c : Chunk p from to (length d) j at) (stays : at ≡ start p from) (bytes : Bytes p) where
+  abbrev block : List ℕ
+  block = take (34 * (to - from)) (drop (pointer from) p)
+
+  block-is : block ≡ pointers at (recordsBetween p from to)
+  block-is = rw stays (sym (pointers-of-a-range-are-one-part p (count p) (c .laid) bytes from to (c .order) (c .there)))
+
+  -- `paste d b s n` is d after the first n bytes of s were copied to byte b: the copy's own invariant. After each record's 34 bytes the same holds.
+  pub a-copy-writes-pointer-after-pointer : (i : ℕ) → from ≤ i → i ≤ to → PointersUpTo p from to j at d i (paste d (pointer j) block (34 * (i - from)))
+  a-copy-writes-pointer-after-pointer i h l =
+      let n : ℕ = 34 * (i - from) in
+      let front : take n block ≡ pointers at (recordsBetween p from i) = ap (take n) block-is ∙ pointers-before-are-final p d from to j at c i h l in
+      let long : length (take n block) ≡ n = ap length front ∙ pointers-long p d from to j at c i h l in
+      let pasted : paste d (pointer j) block n ≡ put d (pointer j) (take n block) =
+      sym (put-is d (pointer j) (take n block) ∙ ap (λ (k : ℕ). (take (pointer j) d ++ take n block) ++ drop (pointer j + k) d) long) in
+      put-is-up-to p d from to j at c i h l (paste d (pointer j) block n) (pasted ∙ ap (put d (pointer j)) front)
+
+  copied : (v x : List ℕ) → v ≡ take (34 * to + 2 - (34 * from + 2)) (drop (34 * from + 2) p) → x ≡ put d (34 * j + 2) v → x ≡ put d (pointer j) (pointers at (recordsBetween p from to))
+  copied v x ev ex =
+      let n : 34 * to + 2 - (34 * from + 2) ≡ 34 * (to - from) = omega (arith, c .order) in
+      ex ∙ ap (put d (34 * j + 2)) (ev ∙ ap (λ (k : ℕ). take k (drop (34 * from + 2) p)) n ∙ block-is)
+
+pub one-copy-is-all : (p d v x : List ℕ) (from to j at first : ℕ) → Chunk p from to (length d) j at → first ≡ start p from → first ≡ at → Bytes p
+    → v ≡ take (34 * to + 2 - (34 * from + 2)) (drop (34 * from + 2) p) → x ≡ put d (34 * j + 2) v → x ≡ put d (pointer j) (pointers at (recordsBetween p from to))
+one-copy-is-all p d v x from to j at first c ef ea bytes ev ex = copied p d from to j at c (sym ea ∙ ef) bytes v x ev ex

@@ -85,17 +85,27 @@ fn push_pointer(page: &[u8], i: usize, d: &mut [u8], place: usize, first: usize,
     requires { ⌜ Shift (now page) i (length (now d)) place first at ⌝ }
     ensures { λ _. ⌜ now (d .exit) ≡ put (now (d .entry)) place (pointerMoved (now (page .entry)) i first at) ⌝ }
 {
-    copy_in(key_at(page, i), d, place);
+    // through a local array, which the compiler keeps in registers
+    let mut key = [0u8; 32];
+    copy_in(key_at(page, i), &mut key, 0);
+    copy_in(&key, d, place);
     put_word(d, place + 32, number_at(page, i) + at - first);
 }
 
-// The pointers of records `from` up to `to` of a page, as pointers from j on, for values from byte `at` on, each written a
-// single time: after each record the pointers up to it are final and the later ones as before (`PointersUpTo`).
-fn push_pointers(page: &[u8], from: usize, to: usize, d: &mut [u8], j: usize, at: usize)
-    requires { ⌜ Chunk (now page) from to (length (now d)) j at ⌝ }
+// The pointers of a chunk whose values move from `first` to `at`, each written a single time: after each record the pointers up
+// to it are final and the later ones as before (`PointersUpTo`).
+fn move_pointers(
+    page: &[u8],
+    from: usize,
+    to: usize,
+    d: &mut [u8],
+    j: usize,
+    first: usize,
+    at: usize,
+)
+    requires { ⌜ (Chunk (now page) from to (length (now d)) j at) × (first ≡ start (now page) from) ⌝ }
     ensures { λ _. ⌜ now (d .exit) ≡ put (now (d .entry)) (pointer j) (pointers at (recordsBetween (now (page .entry)) from to)) ⌝ }
 {
-    let first = start_at(page, count_of(page), from);
     let mut i = from;
     let mut place = 34 * j + 2;
     while i < to {
@@ -103,6 +113,20 @@ fn push_pointers(page: &[u8], from: usize, to: usize, d: &mut [u8], j: usize, at
         place += 34;
         i += 1;
     }
+}
+
+// The pointers of records `from` up to `to` of a page, as pointers from j on, for values from byte `at` on. Where the values stay,
+// the numbers are final as they stand in the page, and one copy writes each pointer once.
+fn push_pointers(page: &[u8], from: usize, to: usize, d: &mut [u8], j: usize, at: usize)
+    requires { ⌜ Chunk (now page) from to (length (now d)) j at ⌝ }
+    ensures { λ _. ⌜ now (d .exit) ≡ put (now (d .entry)) (pointer j) (pointers at (recordsBetween (now (page .entry)) from to)) ⌝ }
+{
+    let first = start_at(page, count_of(page), from);
+    if first == at {
+        copy_in(&page[34 * from + 2..34 * to + 2], d, 34 * j + 2);
+        return;
+    }
+    move_pointers(page, from, to, d, j, first, at);
 }
 
 // Pushes records `from` up to `to` of a page as records from j on, their values from byte `at` on, in one copy. Answers

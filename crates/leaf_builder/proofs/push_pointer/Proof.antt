@@ -4,13 +4,22 @@ use borrow.Author.Needs.{needs}
 use Rattle.leaf_builder.proofs.push_pointer.Statement.{statement}
 use Rattle.leaf_builder.proofs.push_pointer.Tie as tie
 use Rattle.leaf_node.specs.Page.{offsetAt}
-use Rattle.leaf_builder.proofs.Shifting.{key-has-32-bytes, pointer-put}
+use Rattle.leaf_builder.proofs.Shifting.{pointer-put}
 
 key-at-requires : tie.Need-key-at-requires
 key-at-requires c κs = search needs
 
+slice-aggregate-copy-in : tie.Need-slice-aggregate-copy-in
+slice-aggregate-copy-in c = search needs
+
 copy-in-requires : tie.Need-copy-in-requires
 copy-in-requires c κs = search needs
+
+slice-aggregate-copy-in-2 : tie.Need-slice-aggregate-copy-in-2
+slice-aggregate-copy-in-2 c = search needs
+
+copy-in-requires-2 : tie.Need-copy-in-requires-2
+copy-in-requires-2 c κs = search needs
 
 add-put-word : tie.Need-add-put-word
 add-put-word c = search needs
@@ -40,7 +49,10 @@ push-pointer-spec =
     tie.close
     (tie.spec
     key-at-requires
+    slice-aggregate-copy-in
     copy-in-requires
+    slice-aggregate-copy-in-2
+    copy-in-requires-2
     add-put-word
     number-at-requires
     add-put-word-2

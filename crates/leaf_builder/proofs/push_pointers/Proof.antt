@@ -1,72 +1,84 @@
--- `leaf_builder::push_pointers` meets its contract: after each record the pointers up to it are final, the later ones as before.
+-- `leaf_builder::push_pointers` meets its contract: where the values stay, one copy is all.
 -- Assumes nothing.
 use borrow.Author.Needs.{needs}
 use Rattle.leaf_builder.proofs.push_pointers.Statement.{statement}
 use Rattle.leaf_builder.proofs.push_pointers.Tie as tie
-use mathlib.Core.Path.{_≡_}
-use Prim.Native.Nat.{_+_, _-_, _≤_}
-use Rattle.leaf_node.specs.Page.{pointer, start}
-use Rattle.leaf_builder.specs.Steps.{PointersUpTo}
-use Rattle.leaf_builder.proofs.Writing.{chunk-long, chunk-shift, closer}
-use Rattle.leaf_builder.proofs.Shifting.{no-pointer-yet, one-pointer-more, all-pointers}
+use Rattle.bit_ops.specs.Key.{Bytes}
+use Rattle.leaf_builder.proofs.Writing.{chunk-long}
+use Rattle.leaf_builder.proofs.Shifting.{one-copy-is-all}
 
-abbrev Inv-loop : tie.InvT-loop
-Inv-loop page from to d₀ j at first i₀ place₀ d i place = (from ≤ i) × (i ≤ to) × (place ≡ pointer (j + (i - from))) × (PointersUpTo page from to j at d₀ i d)
+count-of-requires : tie.Need-count-of-requires
+count-of-requires c κs = search needs
 
-abbrev μ-loop : tie.MeasureT-loop
-μ-loop page from to d₀ j at first i₀ place₀ d i place = to - i
-
-count-of-requires : tie.Need-count-of-requires Inv-loop μ-loop
-count-of-requires c κs = search (chunk-long, needs)
-
-start-at-requires : tie.Need-start-at-requires Inv-loop μ-loop
+start-at-requires : tie.Need-start-at-requires
 start-at-requires c κs = search needs
 
-mul-place : tie.Need-mul-place Inv-loop μ-loop
-mul-place c = search needs
+mul-copy-in : tie.Need-mul-copy-in
+mul-copy-in c = search needs
 
-add-place : tie.Need-add-place Inv-loop μ-loop
-add-place c = search needs
+add-copy-in : tie.Need-add-copy-in
+add-copy-in c = search needs
 
-loop-holds : tie.Need-loop-holds Inv-loop μ-loop
-loop-holds c = (search needs, search needs, search needs, search (no-pointer-yet, needs))
+mul-copy-in-2 : tie.Need-mul-copy-in-2
+mul-copy-in-2 c = search needs
 
-push-pointer-requires : tie.Need-push-pointer-requires Inv-loop μ-loop
-push-pointer-requires c κs = search (chunk-shift, needs)
+add-copy-in-2 : tie.Need-add-copy-in-2
+add-copy-in-2 c = search needs
 
-add-place-2 : tie.Need-add-place-2 Inv-loop μ-loop
-add-place-2 c = search needs
+sub-copy-in : tie.Need-sub-copy-in
+sub-copy-in c = search needs
 
-add-i : tie.Need-add-i Inv-loop μ-loop
-add-i c = search needs
+part-copy-in-start : tie.Need-part-copy-in-start
+part-copy-in-start c = search needs
 
-loop-less : tie.Need-loop-less Inv-loop μ-loop
-loop-less c = search (closer, needs)
+part-copy-in-end : tie.Need-part-copy-in-end
+part-copy-in-end c = search needs
 
-loop-again : tie.Need-loop-again Inv-loop μ-loop
-loop-again c = (search needs, search needs, search needs, search (one-pointer-more, needs))
+mul-copy-in-3 : tie.Need-mul-copy-in-3
+mul-copy-in-3 c = search needs
 
-same-length : tie.Need-same-length Inv-loop μ-loop
+add-copy-in-3 : tie.Need-add-copy-in-3
+add-copy-in-3 c = search needs
+
+copy-in-requires : tie.Need-copy-in-requires
+copy-in-requires c κs = search needs
+
+same-length : tie.Need-same-length
 same-length c = search needs
 
-returns : tie.Need-returns Inv-loop μ-loop
-returns c = search (all-pointers, needs)
+returns : tie.Need-returns
+returns c =
+    let start = c .before .before .before .before .before .before .before .before .before in
+    let bytes : Bytes (start .before .args .page .now) = λ i. start .shared-slice-known .given i .fits in
+    search (one-copy-is-all, bytes, needs)
+
+move-pointers-requires : tie.Need-move-pointers-requires
+move-pointers-requires c κs = search needs
+
+same-length-2 : tie.Need-same-length-2
+same-length-2 c = search needs
+
+returns-2 : tie.Need-returns-2
+returns-2 c = search needs
 
 pub push-pointers-spec : {M : Type 1} → statement M
 push-pointers-spec =
     tie.close
     (tie.spec
-    Inv-loop
-    μ-loop
     count-of-requires
     start-at-requires
-    mul-place
-    add-place
-    loop-holds
-    push-pointer-requires
-    add-place-2
-    add-i
-    loop-less
-    loop-again
+    mul-copy-in
+    add-copy-in
+    mul-copy-in-2
+    add-copy-in-2
+    sub-copy-in
+    part-copy-in-start
+    part-copy-in-end
+    mul-copy-in-3
+    add-copy-in-3
+    copy-in-requires
     same-length
-    returns)
+    returns
+    move-pointers-requires
+    same-length-2
+    returns-2)
