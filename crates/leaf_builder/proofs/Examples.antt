@@ -1,6 +1,6 @@
 -- A computed example of what M-103 calls the later pointers. Assumes nothing.
 use mathlib.Core.Path.{_≡_, refl}
-use mathlib.Core.List.{List, [], _∷_, _++_}
+use mathlib.Core.List.{[], _∷_, _++_}
 use lib.ListN.{replicate}
 use Rattle.leaf_builder.specs.Steps.{behind}
 

@@ -4,7 +4,6 @@ use borrow.Author.Needs.{needs}
 use Rattle.leaf_builder.proofs.push_pointers.Statement.{statement}
 use Rattle.leaf_builder.proofs.push_pointers.Tie as tie
 use Rattle.bit_ops.specs.Key.{Bytes}
-use Rattle.leaf_builder.proofs.Writing.{chunk-long}
 use Rattle.leaf_builder.proofs.Shifting.{one-copy-is-all}
 
 count-of-requires : tie.Need-count-of-requires
