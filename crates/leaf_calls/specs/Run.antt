@@ -39,7 +39,8 @@ goesOn c x answer gave s = record { now = s; past = c .past ++ (record { before 
 
 -- The courses that the calls can take. Whether a call was refused is read from its own answer; "it is fed only the calls .. and whether each was refused".
 pub data Run : Course → Type 0 where
-  opened : (every : Bool) (x : Opening) → FormedOpening x → (w w′ : Work) (list list′ : List Entry) (store store′ : List ℕ) (r : ℕ) → OpenSays every x w list store r w′ list′ store′ → r ≡ 0
+  opened : (every : Bool) (x : Opening) → FormedOpening x → (w w′ : Work) (list list′ : List Entry) (store store′ : List ℕ) (r : ℕ)
+      → OpenSays every x w list store r w′ list′ store′ → r ≡ 0
       → Run (record {
         now = record { work = w′; list = list′; store = store′; page = openedPage x; told = toldOpening x; given = []; tally = openedTally x };
         past = [];
