@@ -23,8 +23,8 @@ use Rattle.leaf_pending.specs.declared.TwinPlace.{TwinPlace}
 use Rattle.leaf_pending.specs.Reply.{twinOut}
 use Rattle.leaf_take.specs.declared.LeafReport.{LeafReport}
 use Rattle.leaf_take.specs.Reply.{reportOut}
-use Rattle.leaf_within.specs.declared.LeafGave.{LeafGave}
-use Rattle.leaf_within.specs.Reply.{gaveOut}
+use Rattle.leaf_digest.specs.declared.LeafGave.{LeafGave}
+use Rattle.leaf_digest.specs.Reply.{gaveOut}
 use Rattle.leaf_step.proofs.Closed.{a-page-has-4096-bytes}
 use Rattle.leaf_claim.specs.Sequence.{Call, ingest, digest, next-base, remove-cutoff, State, Happened, Course, lent, answered, gives, next, nexts, opened, happens, happenings, courseOf}
 use Rattle.leaf_claim.specs.Sequence as claim

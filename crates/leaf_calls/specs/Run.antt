@@ -19,8 +19,8 @@ use Rattle.leaf_work.specs.Digest.{DigestReply, DigestRefused, Finished, Merge}
 use Rattle.leaf_pending.specs.declared.TwinPlace.{TwinPlace}
 use Rattle.leaf_pending.specs.Reply.{twinOut}
 use Rattle.leaf_take.specs.declared.LeafReport.{LeafReport}
-use Rattle.leaf_within.specs.declared.LeafGave.{LeafGave}
-use Rattle.leaf_split.specs.Digests.{DigestSays}
+use Rattle.leaf_digest.specs.declared.LeafGave.{LeafGave}
+use Rattle.digest.specs.Digests.{DigestSays}
 use Rattle.leaf_updater.specs.Calls.{OpenSays, IngestSays, NextBaseSays, RemoveCutoffSays}
 use Rattle.leaf_claim.specs.Told.{toldOpening, toldIngest, toldDigest, toldNextBase, toldRemoval}
 use Rattle.leaf_claim.specs.Sequence.{Call, ingest, digest, next-base, remove-cutoff, Given, State, Course, lent, openedTally, openedPage, fed, givenBy}

@@ -1,6 +1,7 @@
 // Cutting the pending records into leaves: how large they are, and where each leaf ends. It reads rows and base page, and no value.
 // Ported from nomt/src/beatree/ops/update/leaf_updater.rs of thrumdev/nomt: `LeafGauge`, `consume_and_update_until` and `try_split_keep_chunk`.
 use leaf_node::size_between;
+use leaf_work::Work;
 ghost use mathlib.Core.Path.{_≡_};
 ghost use mathlib.Core.Bool.{_&&_};
 ghost use mathlib.Core.List.{[], _∷_};
@@ -61,6 +62,17 @@ pub struct Taken {
 }
 
 // ---- what is pending
+
+// The span of a work whose base has n records.
+pub fn span_of(work: Work, n: usize) -> Span
+    ensures { λ r. ⌜ r ≡ record { used = work .used; low = work .low; n = n } ⌝ }
+{
+    Span {
+        used: work.used,
+        low: work.low,
+        n: n,
+    }
+}
 
 // The gauge of all pending records, by that of the listed ones: the base's rest, from `low` on, is added. The page has n records.
 pub fn pending_gauge(listed: Gauge, page: &[u8], n: usize, low: usize) -> Gauge

@@ -1,7 +1,7 @@
 -- A digest of what earns no refusal: what its parts require, and that they leave the outcome. Assumes nothing.
 use mathlib.Core.Path.{_≡_, refl, sym, ap, _∙_}
 use mathlib.Core.List.{List, [], _∷_, _++_, map}
-use Prim.Native.Nat.{ℕ, _-_}
+use Prim.Native.Nat.{ℕ, _-_, _≤_}
 use native.Mathlib.Omega.{arith}
 use lib.ListN.{length, replicate}
 use Rattle.bit_ops.specs.Steps.{zeros}
@@ -15,8 +15,8 @@ use Rattle.leaf_work.specs.Flat.{listOf, entriesOf, rowOf}
 use Rattle.leaf_work.specs.Digest as outcome
 use Rattle.leaf_work.proofs.FlatList.{rows-and-keys-agree, length-entries}
 use Rattle.leaf_give.specs.declared.Progress.{Progress}
-use Rattle.leaf_give.specs.Giving.{planned, Gives, GivenOut}
-use Rattle.leaf_merge.specs.Keeping.{Keeps, KeptAs}
+use Rattle.leaf_give.specs.Giving.{pending, planned, Gives, GivenOut}
+use Rattle.leaf_merge.specs.Keeping.{RoomToKeep, Keeps, KeptAs}
 use Rattle.leaf_digest.specs.declared.Digested.{Digested}
 use Rattle.leaf_digest.specs.declared.Gave.the-variants.{Finished, Merge}
 use Rattle.leaf_digest.specs.Reply.{cutoffBeside}
@@ -55,8 +55,10 @@ module _ (size : ℕ) (w : Work) (rows keys : List (List ℕ)) (store page area 
   list-long = ap length (agree .1) ∙ length-entries rows keys (agree .0)
 
   module _ (p : Progress) (area′ tickets′ : List ℕ) (g : GivenOut size w rows keys store page area tickets p area′ tickets′) where
-    pub what-is-left-can-be-kept : Keeps w rows keys store page (p .at) (p .left)
-    what-is-left-can-be-kept = record {
+    -- it may be raised to a row that leaves room for it beside the used entries, or for all that is pending
+    pub what-is-left-can-be-kept-below : (room : ℕ) → room ≤ length rows → w .used ≤ room → RoomToKeep room (length (pending size w rows keys store page)) (w .used) (p .left .count)
+        → Keeps w rows keys store page (p .at) (p .left) room
+    what-is-left-can-be-kept-below room i u r = record {
       ready = d .gives .ready;
       in-place = d .in-place;
       unused = d .unused;
@@ -65,8 +67,13 @@ module _ (size : ℕ) (w : Work) (rows keys : List (List ℕ)) (store page area 
       there = g .there;
       left-counted = g .count-is ∙ sym (ap length (g .left-is));
       left-summed = g .bytes-is ∙ sym (ap total (g .left-is));
-      room = rw (g .count-is) (d .room);
+      room-in = i;
+      used-room = u;
+      room-is = r;
     }
+
+    pub what-is-left-can-be-kept : Keeps w rows keys store page (p .at) (p .left) (length rows)
+    what-is-left-can-be-kept = what-is-left-can-be-kept-below (length rows) (omega arith) (omega (arith, d .gives .ready .used-in, list-long)) (rw (g .count-is) (d .room))
 
     module _ (rows′ keys′ : List (List ℕ)) (store′ : List ℕ) (k : KeptAs w rows keys store page (p .at) rows′ keys′ store′) where
       abbrev listed : ℕ → List Record → List Entry

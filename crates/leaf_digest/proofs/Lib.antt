@@ -4,3 +4,4 @@ pub mod Keys
 pub mod After
 pub mod Digesting
 pub mod Calls
+pub mod Replies

@@ -9,6 +9,7 @@ use leaf_cut::pending_gauge;
 use leaf_give::give_leaves;
 use leaf_merge::prepare_merge_ops;
 use leaf_node::PAGE_SIZE;
+use leaf_passed::key_length;
 use leaf_work::Work;
 use refusal::OUT_OF_TURN;
 use refusal::SHORT_AREA;
@@ -30,7 +31,7 @@ ghost use Rattle.leaf_check.specs.Settled.{Regardable};
 ghost use Rattle.leaf_cut.specs.Steps.{Modest};
 ghost use Rattle.leaf_work.specs.Digest as outcome;
 ghost use Rattle.leaf_give.specs.Giving.{planned};
-ghost use Rattle.leaf_digest.specs.Reply.{replyOf, cutoffBeside};
+ghost use Rattle.leaf_digest.specs.Reply.{replyOf, gaveOut, cutoffBeside};
 ghost use Rattle.leaf_digest.specs.Steps.{Judged, bodyWith, digestWorkBy, Digests, Leaves};
 
 // A refusal, the leaves of a digest that is done, or those of one that waits for a merge.
@@ -46,6 +47,42 @@ pub struct Digested {
     pub reply: Gave,
     pub cutoff: [u8; 32],
     pub work: Work,
+}
+
+// A digest's answer in numbers, for callers in C: 0 or the refusal, whether it waits for a merge, 1 or 0, how many leaves it gave, and the
+// cutoff for which it waits, else zeros.
+#[repr(C)]
+pub struct LeafGave {
+    pub refusal: u8,
+    pub waiting: u8,
+    pub leaves: usize,
+    pub cutoff: [u8; 32],
+}
+
+// The reply in numbers.
+pub fn gave_out(reply: Gave, cutoff: [u8; 32]) -> LeafGave
+    ensures { λ r. ⌜ r ≡ gaveOut (replyOf reply cutoff) ⌝ }
+{
+    match reply {
+        Gave::Refused(n) => LeafGave {
+            refusal: n,
+            waiting: 0,
+            leaves: 0,
+            cutoff: [0u8; 32],
+        },
+        Gave::Finished(leaves) => LeafGave {
+            refusal: 0,
+            waiting: 0,
+            leaves: leaves,
+            cutoff: [0u8; 32],
+        },
+        Gave::Merge(leaves) => LeafGave {
+            refusal: 0,
+            waiting: 1,
+            leaves: leaves,
+            cutoff: cutoff,
+        },
+    }
 }
 
 // ---- the number
@@ -122,7 +159,7 @@ fn digest_verdict(
 // ---- what a digest leaves behind
 
 // The work record after a digest that keeps `left`, whose separator is given.
-fn digest_work(work: Work, left: Gauge, separator: [u8; 32]) -> Work
+pub fn digest_work(work: Work, left: Gauge, separator: [u8; 32]) -> Work
     ensures { λ r. ⌜ r ≡ digestWorkBy work left separator ⌝ }
 {
     let mut next = work;
@@ -183,18 +220,6 @@ pub fn digest_ready(
 }
 
 // ---- the call
-
-fn length_of(bytes: &[u8]) -> usize
-    ensures { λ r. ⌜ r ≡ length (now (bytes .entry)) ⌝ }
-{
-    bytes.len()
-}
-
-fn key_length(key: &[u8; 32]) -> usize
-    ensures { λ r. ⌜ (r ≡ 32) × (length (now (key .entry)) ≡ 32) ⌝ }
-{
-    length_of(key)
-}
 
 // That a key of the list has 32 bytes is known of one that was read. The loop finds out nothing else, and the compiler drops it.
 pub fn read_keys(keys: &[[u8; 32]])

@@ -1,11 +1,12 @@
--- A list gone through by any step: what is carried after its first entries. The pass and the search are such.
-use mathlib.Core.Path.{_≡_, refl, _∙_, ap}
+-- A list gone through by any step: what is carried after its first entries, and what was found out of each. The pass and the search are such.
+use mathlib.Core.Path.{_≡_, refl, sym, _∙_, ap, subst}
 use mathlib.Core.List.{List, [], _∷_}
-use Prim.Native.Nat.{ℕ, zero, suc, _+_, _<_}
+use Prim.Native.Nat.{ℕ, zero, suc, _+_, _≤_, _<_}
 use native.Mathlib.Nat.{not-suc-le-zero, le-of-suc-le-suc}
 use native.Mathlib.Numerals.{add-one}
 use lib.ListN.{length, getD, take}
-use lib.Seq.{take-length}
+use lib.Seq.{take-length, take-all}
+use Rattle.leaf_node.specs.Fits.{All, nil, cons}
 use Rattle.leaf_work.specs.declared.Entry.{Entry}
 use Rattle.leaf_passed.specs.declared.Passing.{Passing}
 use Rattle.leaf_passed.specs.declared.Seek.{Seek}
@@ -51,3 +52,22 @@ pub unused-folds : (u : Unused) (l : List Entry) → folded unusedOne u l ≡ un
 unfolding folded
 unused-folds u [] = refl
 unused-folds u (e ∷ l) = unused-folds (unusedOne u e) l
+
+-- ---- what is found out of each entry
+
+module _ {A : Type 0} {P : A → Type 0} where
+  finding-the-next : (l : List A) (i : ℕ) (d : A) → i < length l → All P (take i l) → P (getD l i d) → All P (take (suc i) l)
+  finding-the-next [] i d h a p = absurd (not-suc-le-zero h)
+  finding-the-next (x ∷ xs) zero d h a p = cons p nil
+  finding-the-next (x ∷ xs) (suc i) d h (cons q a) p = cons q (finding-the-next xs i d (le-of-suc-le-suc h) a p)
+
+  pub finding-one-more : (l : List A) (i : ℕ) (d : A) → i < length l → All P (take i l) → P (getD l i d) → All P (take (i + 1) l)
+  finding-one-more l i d h a p = subst (λ (k : ℕ). All P (take k l)) (sym (add-one i)) (finding-the-next l i d h a p)
+
+  pub finding-all : (l : List A) (i : ℕ) → length l ≤ i → All P (take i l) → All P l
+  finding-all l i h a = subst (All P) (take-all i l h) a
+
+pub nothing-behind-the-end : {A : Type 0} (l : List A) (i : ℕ) (d : A) → length l ≤ i → getD l i d ≡ d
+nothing-behind-the-end [] i d h = refl
+nothing-behind-the-end (x ∷ xs) zero d h = absurd (not-suc-le-zero h)
+nothing-behind-the-end (x ∷ xs) (suc i) d h = nothing-behind-the-end xs i d (le-of-suc-le-suc h)

@@ -1,15 +1,11 @@
--- A list of entries as rows beside keys and back.
-use mathlib.Core.List.{List, [], _∷_}
-use Prim.Native.Nat.{ℕ, _%_}
-use lib.ListN.{getD}
+-- What the functions over a list of entries do to one of them.
+use mathlib.Core.Bool.{_||_, cond}
+use Prim.Native.Nat.{ℕ, _+_}
+use lib.Dec.{ltb}
 use Rattle.leaf_work.specs.declared.Entry.{Entry}
+use Rattle.leaf_work.specs.Lent.{anInsert, chunkOf}
 
--- a row and a key as an entry: kind and flag have a byte each
-abbrev pub narrowed : List ℕ → List ℕ → Entry
-narrowed row key = record { kind = getD row 0 0 % 256; flag = getD row 1 0 % 256; from = getD row 2 0; to = getD row 3 0; sum = getD row 4 0; key = key }
-
--- the entries that rows and keys stand for
-abbrev pub gathered : List (List ℕ) → List (List ℕ) → List Entry
-gathered [] keys = []
-gathered (r ∷ rs) [] = []
-gathered (r ∷ rs) (k ∷ ks) = narrowed r k ∷ gathered rs ks
+-- an entry without its first `skip` records, where it has as many: an insert is one record, and of a chunk the others remain. The sum of their
+-- values is not kept.
+unfoldable pub behindOf : ℕ → Entry → Entry
+behindOf skip e = cond (anInsert e || ltb (e .to) (e .from + skip)) e (chunkOf (e .from + skip) (e .to) 0)

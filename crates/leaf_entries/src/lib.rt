@@ -11,43 +11,26 @@ use leaf_passed::seek_one;
 use leaf_passed::unused_one;
 use leaf_work::Entry;
 ghost use mathlib.Core.Path.{_≡_};
-ghost use mathlib.Core.List.{map};
 ghost use Prim.Native.Nat.{_≤_};
-ghost use lib.ListN.{length, set, take};
+ghost use lib.ListN.{length, getD, set, take};
 ghost use Rattle.leaf_model.specs.Basics.{cleared};
-ghost use Rattle.leaf_work.specs.Lent.{blank};
+ghost use Rattle.leaf_node.specs.Fits.{All};
+ghost use Rattle.leaf_work.specs.Lent.{blank, insertAt, chunkOf};
 ghost use Rattle.leaf_work.specs.Flat.{rowOf};
-ghost use Rattle.leaf_work.specs.Digest.{overwrite};
 ghost use Rattle.leaf_passed.specs.Passed.{PassingOn, passedOver};
 ghost use Rattle.leaf_passed.specs.Behind.{unusedOver};
 ghost use Rattle.leaf_passed.specs.Sought.{soughtOver};
-ghost use Rattle.leaf_entries.specs.Lists.{narrowed, gathered};
+ghost use Rattle.leaf_entries.specs.Lists.{behindOf};
 
 // ---- one entry, by value
 
 // An entry's numbers.
-fn row_of(entry: Entry) -> [usize; 5]
+pub fn row_of(entry: Entry) -> [usize; 5]
     ensures { λ r. ⌜ r ≡ rowOf entry ⌝ }
 {
     let kind = entry.kind as usize;
     let flag = entry.flag as usize;
     [kind, flag, entry.from, entry.to, entry.sum]
-}
-
-// The entry of five numbers and a key.
-fn entry_of(row: [usize; 5], key: [u8; 32]) -> Entry
-    ensures { λ r. ⌜ r ≡ narrowed row key ⌝ }
-{
-    let kind = (row[0] % 256) as u8;
-    let flag = (row[1] % 256) as u8;
-    Entry {
-        kind: kind,
-        flag: flag,
-        from: row[2],
-        to: row[3],
-        sum: row[4],
-        key: key,
-    }
 }
 
 // An unused entry.
@@ -64,7 +47,73 @@ pub fn blank_entry() -> Entry
     }
 }
 
+// An insert, whose value is the store's bytes `from` to `to`.
+pub fn insert_entry(from: usize, to: usize, key: &[u8; 32], flag: u8) -> Entry
+    ensures { λ r. ⌜ r ≡ insertAt from to (now (key .entry)) flag ⌝ }
+{
+    let own = *key;
+    Entry {
+        kind: 1,
+        flag: flag,
+        from: from,
+        to: to,
+        sum: 0,
+        key: own,
+    }
+}
+
+// A chunk, base records `from` to `to`, whose values have `sum` bytes.
+pub fn chunk_entry(from: usize, to: usize, sum: usize) -> Entry
+    ensures { λ r. ⌜ r ≡ chunkOf from to sum ⌝ }
+{
+    Entry {
+        kind: 2,
+        flag: 0,
+        from: from,
+        to: to,
+        sum: sum,
+        key: [0u8; 32],
+    }
+}
+
+// An entry without its first `skip` records, where it has as many.
+fn behind(entry: Entry, skip: usize) -> Entry
+    ensures { λ r. ⌜ r ≡ behindOf skip entry ⌝ }
+{
+    if entry.kind == 1 {
+        return entry;
+    }
+    if entry.to < entry.from {
+        return entry;
+    }
+    if entry.to - entry.from < skip {
+        return entry;
+    }
+    chunk_entry(entry.from + skip, entry.to, 0)
+}
+
 // ---- the list is read
+
+// Entry `at`, or behind the list's end an unused one.
+pub fn read(list: &[Entry], at: usize) -> Entry
+    ensures { λ r. ⌜ r ≡ getD (now (list .entry)) at blank ⌝ }
+{
+    if at < list.len() {
+        let entry = list[at];
+        entry
+    } else {
+        let entry = blank_entry();
+        entry
+    }
+}
+
+// Entry `at`, split behind its first `skip` records: what a leaf that ends inside a chunk leaves of it.
+pub fn split(list: &[Entry], at: usize, skip: usize) -> Entry
+    ensures { λ r. ⌜ r ≡ behindOf skip (getD (now (list .entry)) at blank) ⌝ }
+{
+    let entry = read(list, at);
+    behind(entry, skip)
+}
 
 // The pass over the first `count` entries.
 fn pass_first(list: &[Entry], page: &[u8], start: Passing, count: usize) -> Passing
@@ -81,9 +130,9 @@ fn pass_first(list: &[Entry], page: &[u8], start: Passing, count: usize) -> Pass
     at
 }
 
-// Whether the entries behind the first ones are unused.
+// Whether the entries behind the first ones are unused. Of each that was read it is known that its key has 32 bytes.
 pub fn unused_entries(list: &[Entry], start: Unused) -> Unused
-    ensures { λ r. ⌜ r ≡ unusedOver start (now (list .entry)) ⌝ }
+    ensures { λ r. ⌜ (r ≡ unusedOver start (now (list .entry))) × (All (λ e. length (e .key) ≡ 32) (now (list .entry))) ⌝ }
 {
     let mut at = start;
     let mut i = 0;
@@ -98,7 +147,7 @@ pub fn unused_entries(list: &[Entry], start: Unused) -> Unused
 // The pass over all entries: the used ones are passed, the others only looked at.
 pub fn pass_entries(list: &[Entry], page: &[u8], start: Passing) -> Passing
     requires { ⌜ PassingOn start (now page) ⌝ }
-    ensures { λ r. ⌜ (r ≡ passedOver (now (page .entry)) start (now (list .entry))) × (PassingOn r (now (page .entry))) ⌝ }
+    ensures { λ r. ⌜ (r ≡ passedOver (now (page .entry)) start (now (list .entry))) × (PassingOn r (now (page .entry))) × (All (λ e. length (e .key) ≡ 32) (now (list .entry))) ⌝ }
 {
     let count = first_count(start, list.len());
     let unused = unused_entries(list, begin_unused(count));
@@ -138,34 +187,6 @@ pub fn drain(list: &mut [Entry], from: usize)
     let mut i = from;
     while i < list.len() {
         list[i] = blank_entry();
-        i += 1;
-    }
-}
-
-// ---- the list as the core takes it
-
-// The first `count` entries, as rows and beside them keys.
-pub fn split(list: &[Entry], rows: &mut [[usize; 5]], keys: &mut [[u8; 32]], count: usize)
-    requires { ⌜ (count ≤ length (now list)) × (count ≤ length (now rows)) × (count ≤ length (now keys)) ⌝ }
-    ensures { λ _. ⌜ (now (rows .exit) ≡ overwrite (map rowOf (take count (now (list .entry)))) (now (rows .entry))) × (now (keys .exit) ≡ overwrite (map (λ e. e .key) (take count (now (list .entry)))) (now (keys .entry))) ⌝ }
-{
-    let mut i = 0;
-    while i < count {
-        let entry = list[i];
-        rows[i] = row_of(entry);
-        keys[i] = entry.key;
-        i += 1;
-    }
-}
-
-// The first `count` rows and keys, as entries again.
-pub fn gather(list: &mut [Entry], rows: &[[usize; 5]], keys: &[[u8; 32]], count: usize)
-    requires { ⌜ (count ≤ length (now list)) × (count ≤ length (now rows)) × (count ≤ length (now keys)) ⌝ }
-    ensures { λ _. ⌜ now (list .exit) ≡ overwrite (gathered (take count (now (rows .entry))) (take count (now (keys .entry)))) (now (list .entry)) ⌝ }
-{
-    let mut i = 0;
-    while i < count {
-        list[i] = entry_of(rows[i], keys[i]);
         i += 1;
     }
 }

@@ -17,7 +17,7 @@ use Rattle.leaf_work.specs.declared.Work.{Work}
 use Rattle.leaf_work.specs.declared.Entry.{Entry}
 use Rattle.leaf_work.specs.Tests.{every, isZero}
 use Rattle.leaf_work.specs.Lent.{blank}
-use Rattle.leaf_work.specs.Flat.{entriesOf, listOf, rowOf}
+use Rattle.leaf_work.specs.Flat.{entriesOf, listOf, rowOf, rowsOf, keysOf}
 use Rattle.leaf_work.specs.Pending.{pendingOf}
 use Rattle.leaf_work.specs.Sound.{placed}
 use Rattle.leaf_work.specs.Digest.{insertsOf}
@@ -37,7 +37,7 @@ use Rattle.leaf_move.proofs.Under.{drop-under, getD-under}
 use Rattle.leaf_merge.specs.Keeping.{keptRecords, Keeps, KeptAs}
 use Rattle.leaf_raise.specs.Raising.{Room, Raised}
 use Rattle.leaf_merge.specs.Lifting.{fullTop, Raises}
-use Rattle.leaf_raise.proofs.Inserts.{rowsOf, keysOf, rows-many, keys-many}
+use Rattle.leaf_raise.proofs.Inserts.{rows-many, keys-many}
 use Rattle.leaf_raise.proofs.Raising.{rows-as-long, keys-as-long, store-as-long}
 use Rattle.leaf_merge.proofs.Walk.{a-later-entry-has-later-records}
 use Rattle.leaf_merge.proofs.Places.{total-is-a-sum, sum-append, listed-prefix, an-entry-has-no-less-than-one-record, a-listed-value-ends-below-the-sum}
@@ -61,7 +61,7 @@ unused-is-zero store filled e i h l =
 
 -- ---- what is kept can be raised
 
-module _ (w : Work) (rows keys : List (List ℕ)) (store page : List ℕ) (at : Cursor) (left : Gauge) (k : Keeps w rows keys store page at left) where
+module _ (w : Work) (rows keys : List (List ℕ)) (store page : List ℕ) (at : Cursor) (left : Gauge) (room : ℕ) (k : Keeps w rows keys store page at left room) where
   abbrev span : Span
   span = spanOf w page
 
@@ -93,17 +93,17 @@ module _ (w : Work) (rows keys : List (List ℕ)) (store page : List ℕ) (at : 
   all-is-kept : Kept rows keys store page span
   all-is-kept = what-is-ready-is-kept w rows keys store page (k .ready)
 
-  kept-few : length (from at) ≤ length rows
-  kept-few = elim (k .room) [ inl h ↦ omega (arith, from-many at, h) | inr h ↦ omega (arith, k .left-counted, h) ]
+  kept-few : length (from at) ≤ room
+  kept-few = elim (k .room-is) [ inl h ↦ omega (arith, from-many at, h) | inr h ↦ omega (arith, k .left-counted, h) ]
 
-  entries-below : (i : ℕ) → at .entry < i → i ≤ w .used → i + length (from (record { entry = i; skip = 0 })) ≤ length rows
+  entries-below : (i : ℕ) → at .entry < i → i ≤ w .used → i + length (from (record { entry = i; skip = 0 })) ≤ room
   entries-below i l h =
       let c : Cursor = record { entry = i; skip = 0 } in
       let m : indexOf rows page (record { entry = i; skip = 0 }) ≡ length (listedSizes page i rows) + 0 = unfold indexOf in refl in
       let o = an-entry-has-no-less-than-one-record rows page span (what-is-ready-is-spread w rows keys store page (k .ready)) i h in
       let r = a-later-entry-has-later-records rows page span at (all-is-kept .used-in) (k .there) i l h in
-      elim (k .room) [
-        | inl q ↦ omega (arith, m, from-many c, o, q, all-is-kept .used-in)
+      elim (k .room-is) [
+        | inl q ↦ omega (arith, m, from-many c, o, q, k .used-room)
         | inr q ↦ omega (arith, from-many c, from-many at, r, q, k .left-counted)
       ]
 
@@ -128,55 +128,52 @@ module _ (w : Work) (rows keys : List (List ℕ)) (store page : List ℕ) (at : 
       let e : sum (listedSizes page (i + 1) rows) ≡ sum (listedSizes page (suc i) rows) = ap (λ (j : ℕ). sum (listedSizes page j rows)) (add-one i) in
       omega (arith, b, e, sums-split (i + 1) (omega arith), all-short)
 
-  raises : Raises rows keys store page span at (left .bytes)
+  raises : Raises rows keys store page span at (left .bytes) room
   raises = record {
     kept = all-is-kept;
     there = k .there;
     bytes-is = k .left-summed;
+    room-in = k .room-in;
     few = kept-few;
     short = omega (arith, k .left-summed, from-short at, all-short);
     entries-below = entries-below;
     values-below = values-below;
   }
 
+  abbrev kept : List Record
+  kept = keptRecords w rows keys store page at
+
+  pub as-many-as-have-room : left .count ≤ room
+  as-many-as-have-room = omega (arith, k .left-counted, raises .few)
+
+  pub places-from-the-start : left .bytes - total kept ≡ 0
+  places-from-the-start = omega (arith, k .left-summed)
+
+  pub what-is-kept-has-room : Room rows keys store (fullTop room store (left .bytes)) kept
+  what-is-kept-has-room = record {
+    as-many = agree .0;
+    rows-in = k .room-in;
+    store-in = omega arith;
+    few = raises .few;
+    short = omega (arith, k .left-summed);
+    fits = omega (arith, k .left-summed, raises .short);
+  }
+
   module _ (n : ℕ) (e : n ≡ count page) where
-    pub what-is-kept-can-be-raised : Raises rows keys store page (record { used = w .used; low = w .low; n = n }) at (left .bytes)
+    pub what-is-kept-can-be-raised : Raises rows keys store page (record { used = w .used; low = w .low; n = n }) at (left .bytes) room
     what-is-kept-can-be-raised = rw e raises
 
-    -- ---- raised and settled
+    -- ---- raised
 
     module _ (rows₁ keys₁ : List (List ℕ)) (store₁ : List ℕ)
-        (h : Raised rows keys store (fullTop rows store (left .bytes)) (recordsFrom (record { used = w .used; low = w .low; n = n }) rows keys store page at) rows₁ keys₁ store₁) where
-      abbrev kept : List Record
-      kept = keptRecords w rows keys store page at
+        (h : Raised rows keys store (fullTop room store (left .bytes)) (recordsFrom (record { used = w .used; low = w .low; n = n }) rows keys store page at) rows₁ keys₁ store₁) where
+      pub what-is-kept-is-raised : Raised rows keys store (fullTop room store (left .bytes)) kept rows₁ keys₁ store₁
+      what-is-kept-is-raised = rw e at h
 
-      raised : Raised rows keys store (fullTop rows store (left .bytes)) kept rows₁ keys₁ store₁
-      raised = rw e at h
-
-      room : Room rows keys store (fullTop rows store (left .bytes)) kept
-      room = record {
-        as-many = agree .0;
-        rows-in = omega arith;
-        store-in = omega arith;
-        few = raises .few;
-        short = omega (arith, k .left-summed);
-        fits = omega (arith, k .left-summed, raises .short);
-      }
-
-      rows-long : length rows₁ ≡ length rows
-      rows-long = rows-as-long rows keys store (fullTop rows store (left .bytes)) kept room rows₁ keys₁ store₁ raised
-
-      keys-long : length keys₁ ≡ length keys
-      keys-long = keys-as-long rows keys store (fullTop rows store (left .bytes)) kept room rows₁ keys₁ store₁ raised
+      -- ---- the store, settled
 
       store-long : length store₁ ≡ length store
-      store-long = store-as-long rows keys store (fullTop rows store (left .bytes)) kept room rows₁ keys₁ store₁ raised
-
-      pub the-rows-can-be-settled : left .count ≤ length rows₁
-      the-rows-can-be-settled = omega (arith, rows-long, k .left-counted, raises .few)
-
-      pub the-keys-can-be-settled : left .count ≤ length keys₁
-      the-keys-can-be-settled = omega (arith, keys-long, agree .0, k .left-counted, raises .few)
+      store-long = store-as-long rows keys store (fullTop room store (left .bytes)) kept what-is-kept-has-room rows₁ keys₁ store₁ what-is-kept-is-raised
 
       pub the-store-can-be-settled : Spare store₁ (left .bytes) (w .filled)
       the-store-can-be-settled = record {
@@ -188,35 +185,64 @@ module _ (w : Work) (rows keys : List (List ℕ)) (store page : List ℕ) (at : 
           below : (i : ℕ) → i < length store - total kept → getD store₁ i 0 ≡ getD store i 0
           below i l =
               let v : length (values kept) ≡ total kept = length-values kept in
-              rw (raised .store-is) (getD-under store (length store) (values kept) (omega (arith, k .left-summed, raises .short)) (omega arith) i 0 (omega arith))
+              rw (what-is-kept-is-raised .store-is) (getD-under store (length store) (values kept) (omega (arith, k .left-summed, raises .short)) (omega arith) i 0 (omega arith))
 
-      zero-start : left .bytes - total kept ≡ 0
-      zero-start = omega (arith, k .left-summed)
-
-      rows-are : (rows₂ : List (List ℕ)) → rows₂ ≡ settled (rowOf blank) rows₁ (left .count) → rows₂ ≡ map rowOf (insertsOf 0 kept ++ replicate (length rows - length kept) blank)
+      pub the-settled-store : (store₂ : List ℕ) → store₂ ≡ settled 0 store₁ (left .bytes) → store₂ ≡ values kept ++ zeros (length store - total kept)
       unfolding settled
-      rows-are rows₂ q =
-          let t : drop (length rows₁ - left .count) rows₁ ≡ rowsOf (insertsOf 0 kept) =
-          top-is rows (rowsOf (insertsOf 0 kept)) rows₁ (left .count) (rows-many 0 kept ∙ sym (k .left-counted)) (omega (arith, rows-long, the-rows-can-be-settled)) (raised .rows-are ∙ rw zero-start) rows-long in
-          let m : length rows₁ - left .count ≡ length rows - length kept = omega (arith, rows-long, k .left-counted) in
-          q ∙ rw (t, m, map-append rowOf (insertsOf 0 kept) (replicate (length rows - length kept) blank), map-replicate rowOf (length rows - length kept) blank)
-
-      keys-are : (keys₂ : List (List ℕ)) → keys₂ ≡ settled zeroKey keys₁ (left .count) → keys₂ ≡ map (λ e. e .key) (insertsOf 0 kept ++ replicate (length keys - length kept) blank)
-      unfolding settled
-      keys-are keys₂ q =
-          let t : drop (length keys₁ - left .count) keys₁ ≡ keysOf (insertsOf 0 kept) =
-          top-is keys (keysOf (insertsOf 0 kept)) keys₁ (left .count) (keys-many 0 kept ∙ sym (k .left-counted)) (omega (arith, keys-long, the-keys-can-be-settled)) (raised .keys-are ∙ rw (zero-start, agree .0)) keys-long in
-          let m : length keys₁ - left .count ≡ length keys - length kept = omega (arith, keys-long, k .left-counted) in
-          q ∙ rw (t, m, map-append (λ (x : Entry). x .key) (insertsOf 0 kept) (replicate (length keys - length kept) blank), map-replicate (λ (x : Entry). x .key) (length keys - length kept) blank)
-
-      store-is : (store₂ : List ℕ) → store₂ ≡ settled 0 store₁ (left .bytes) → store₂ ≡ values kept ++ zeros (length store - total kept)
-      unfolding settled
-      store-is store₂ q =
+      the-settled-store store₂ q =
           let t : drop (length store₁ - left .bytes) store₁ ≡ values kept =
-          top-is store (values kept) store₁ (left .bytes) (length-values kept ∙ sym (k .left-summed)) (omega (arith, raises .short)) (raised .store-is) store-long in
+          top-is store (values kept) store₁ (left .bytes) (length-values kept ∙ sym (k .left-summed)) (omega (arith, raises .short)) (what-is-kept-is-raised .store-is) store-long in
           let m : length store₁ - left .bytes ≡ length store - total kept = omega (arith, store-long, k .left-summed) in
           q ∙ rw (t, m)
 
-      pub what-is-raised-and-settled-is-kept : (rows₂ keys₂ : List (List ℕ)) (store₂ : List ℕ) → rows₂ ≡ settled (rowOf blank) rows₁ (left .count) → keys₂ ≡ settled zeroKey keys₁ (left .count)
-          → store₂ ≡ settled 0 store₁ (left .bytes) → KeptAs w rows keys store page at rows₂ keys₂ store₂
-      what-is-raised-and-settled-is-kept rows₂ keys₂ store₂ a b c = record { rows-are = rows-are rows₂ a; keys-are = keys-are keys₂ b; store-is = store-is store₂ c }
+-- ---- rows and keys, raised to their end and settled
+
+module _ (w : Work) (rows keys : List (List ℕ)) (store page : List ℕ) (at : Cursor) (left : Gauge) (k : Keeps w rows keys store page at left (length rows)) (n : ℕ) (e : n ≡ count page) (rows₁ keys₁ : List (List ℕ)) (store₁ : List ℕ)
+    (h : Raised rows keys store (fullTop (length rows) store (left .bytes)) (recordsFrom (record { used = w .used; low = w .low; n = n }) rows keys store page at) rows₁ keys₁ store₁) where
+  abbrev saved : List Record
+  saved = keptRecords w rows keys store page at
+
+  as-many : length rows ≡ length keys
+  as-many = rows-and-keys-agree rows keys (k .ready .list-there) .0
+
+  raised : Raised rows keys store (fullTop (length rows) store (left .bytes)) saved rows₁ keys₁ store₁
+  raised = what-is-kept-is-raised w rows keys store page at left (length rows) k n e rows₁ keys₁ store₁ h
+
+  room : Room rows keys store (fullTop (length rows) store (left .bytes)) saved
+  room = what-is-kept-has-room w rows keys store page at left (length rows) k
+
+  zero-start : left .bytes - total saved ≡ 0
+  zero-start = places-from-the-start w rows keys store page at left (length rows) k
+
+  rows-long : length rows₁ ≡ length rows
+  rows-long = rows-as-long rows keys store (fullTop (length rows) store (left .bytes)) saved room rows₁ keys₁ store₁ raised
+
+  keys-long : length keys₁ ≡ length keys
+  keys-long = keys-as-long rows keys store (fullTop (length rows) store (left .bytes)) saved room rows₁ keys₁ store₁ raised
+
+  pub the-rows-can-be-settled : left .count ≤ length rows₁
+  the-rows-can-be-settled = omega (arith, rows-long, as-many-as-have-room w rows keys store page at left (length rows) k)
+
+  pub the-keys-can-be-settled : left .count ≤ length keys₁
+  the-keys-can-be-settled = omega (arith, keys-long, as-many, as-many-as-have-room w rows keys store page at left (length rows) k)
+
+  rows-are : (rows₂ : List (List ℕ)) → rows₂ ≡ settled (rowOf blank) rows₁ (left .count) → rows₂ ≡ map rowOf (insertsOf 0 saved ++ replicate (length rows - length saved) blank)
+  unfolding settled
+  rows-are rows₂ q =
+      let t : drop (length rows₁ - left .count) rows₁ ≡ rowsOf (insertsOf 0 saved) =
+      top-is rows (rowsOf (insertsOf 0 saved)) rows₁ (left .count) (rows-many 0 saved ∙ sym (k .left-counted)) (omega (arith, rows-long, the-rows-can-be-settled)) (raised .rows-are ∙ rw zero-start) rows-long in
+      let m : length rows₁ - left .count ≡ length rows - length saved = omega (arith, rows-long, k .left-counted) in
+      q ∙ rw (t, m, map-append rowOf (insertsOf 0 saved) (replicate (length rows - length saved) blank), map-replicate rowOf (length rows - length saved) blank)
+
+  keys-are : (keys₂ : List (List ℕ)) → keys₂ ≡ settled zeroKey keys₁ (left .count) → keys₂ ≡ map (λ e. e .key) (insertsOf 0 saved ++ replicate (length keys - length saved) blank)
+  unfolding settled
+  keys-are keys₂ q =
+      let t : drop (length keys₁ - left .count) keys₁ ≡ keysOf (insertsOf 0 saved) =
+      top-is keys (keysOf (insertsOf 0 saved)) keys₁ (left .count) (keys-many 0 saved ∙ sym (k .left-counted)) (omega (arith, keys-long, the-keys-can-be-settled)) (raised .keys-are ∙ rw (zero-start, as-many)) keys-long in
+      let m : length keys₁ - left .count ≡ length keys - length saved = omega (arith, keys-long, k .left-counted) in
+      q ∙ rw (t, m, map-append (λ (x : Entry). x .key) (insertsOf 0 saved) (replicate (length keys - length saved) blank), map-replicate (λ (x : Entry). x .key) (length keys - length saved) blank)
+
+  pub what-is-raised-and-settled-is-kept : (rows₂ keys₂ : List (List ℕ)) (store₂ : List ℕ) → rows₂ ≡ settled (rowOf blank) rows₁ (left .count) → keys₂ ≡ settled zeroKey keys₁ (left .count)
+      → store₂ ≡ settled 0 store₁ (left .bytes) → KeptAs w rows keys store page at rows₂ keys₂ store₂
+  what-is-raised-and-settled-is-kept rows₂ keys₂ store₂ a b c =
+      record { rows-are = rows-are rows₂ a; keys-are = keys-are keys₂ b; store-is = the-settled-store w rows keys store page at left (length rows) k n e rows₁ keys₁ store₁ h store₂ c }

@@ -18,7 +18,7 @@ use Rattle.leaf_node.specs.Page.{recordsBetween}
 use Rattle.leaf_node.specs.Steps.{Laid}
 use Rattle.leaf_node.proofs.Lengths.{length-values}
 use Rattle.leaf_work.specs.Tests.{isSet}
-use Rattle.leaf_work.specs.Flat.{entryOf}
+use Rattle.leaf_work.specs.Flat.{entryOf, rowsOf, keysOf}
 use Rattle.leaf_work.specs.Pending.{held, insertPlace}
 use Rattle.leaf_work.specs.Digest.{insertsOf}
 use Rattle.leaf_cut.specs.declared.Span.{Span}
@@ -35,7 +35,7 @@ use Rattle.leaf_move.proofs.Under.{getD-under, part-under}
 use Rattle.leaf_raise.specs.declared.Top.{Top}
 use Rattle.leaf_raise.specs.Raising.{lowerBy, Room, Raised, RangeThere, EntryBelow}
 use Rattle.leaf_merge.specs.Lifting.{fullTop, skipAt, PartBelow, Raises}
-use Rattle.leaf_raise.proofs.Inserts.{rowsOf, keysOf, rows-many, keys-many}
+use Rattle.leaf_raise.proofs.Inserts.{rows-many, keys-many}
 use Rattle.leaf_raise.proofs.Raising.{nothing-is-raised, below-no-record, rows-as-long, keys-as-long, store-as-long, room-for-the-last, tops-join, room-is-left, both-are-raised}
 use Rattle.leaf_merge.proofs.Parts.{the-entry-of-the-cursor-skips, another-entry-does-not-skip}
 
@@ -73,20 +73,20 @@ a-later-entry-has-later-records rows page s at u there j l high = unfold indexOf
 
 -- ---- what is raised
 
-module _ (rows₀ keys₀ : List (List ℕ)) (store₀ page : List ℕ) (s : Span) (at : Cursor) (bytes : ℕ) where
+module _ (rows₀ keys₀ : List (List ℕ)) (store₀ page : List ℕ) (s : Span) (at : Cursor) (bytes room : ℕ) where
   -- the kept records from entry e on are raised
   pub record Lifted (rows keys : List (List ℕ)) (store : List ℕ) (top : Top) (e : ℕ) : Type 0 where
     pub entry-in : at .entry ≤ e
     pub end-in : e ≤ s .used + 1
-    pub raised : Raised rows₀ keys₀ store₀ (fullTop rows₀ store₀ bytes) (keptFrom s rows₀ keys₀ store₀ page at e) rows keys store
-    pub top-is : top ≡ lowerBy (fullTop rows₀ store₀ bytes) (length (keptFrom s rows₀ keys₀ store₀ page at e)) (total (keptFrom s rows₀ keys₀ store₀ page at e))
+    pub raised : Raised rows₀ keys₀ store₀ (fullTop room store₀ bytes) (keptFrom s rows₀ keys₀ store₀ page at e) rows keys store
+    pub top-is : top ≡ lowerBy (fullTop room store₀ bytes) (length (keptFrom s rows₀ keys₀ store₀ page at e)) (total (keptFrom s rows₀ keys₀ store₀ page at e))
     pub rows-long : length rows ≡ length rows₀
     pub keys-long : length keys ≡ length keys₀
     pub store-long : length store ≡ length store₀
 
-  module _ (g : Raises rows₀ keys₀ store₀ page s at bytes) where
+  module _ (g : Raises rows₀ keys₀ store₀ page s at bytes room) where
     abbrev full : Top
-    full = fullTop rows₀ store₀ bytes
+    full = fullTop room store₀ bytes
 
     abbrev from : Cursor → List Record
     from c = recordsFrom s rows₀ keys₀ store₀ page c
@@ -108,7 +108,7 @@ module _ (rows₀ keys₀ : List (List ℕ)) (store₀ page : List ℕ) (s : Spa
     unfolding keptFrom
     kept-none e h = rw (lt-ltb (s .used) e h)
 
-    pub nothing-is-lifted : Lifted rows₀ keys₀ store₀ (record { row = length rows₀; to = bytes; at = length store₀ }) (s .used + 1)
+    pub nothing-is-lifted : Lifted rows₀ keys₀ store₀ (record { row = room; to = bytes; at = length store₀ }) (s .used + 1)
     nothing-is-lifted =
         let z : kept (s .used + 1) ≡ [] = kept-none (s .used + 1) (omega arith) in
         record {
@@ -149,7 +149,7 @@ module _ (rows₀ keys₀ : List (List ℕ)) (store₀ page : List ℕ) (s : Spa
       all-room : Room rows₀ keys₀ store₀ full (from at)
       all-room = record {
         as-many = g .kept .as-many;
-        rows-in = omega arith;
+        rows-in = g .room-in;
         store-in = omega arith;
         few = g .few;
         short = omega (arith, g .bytes-is);
@@ -205,7 +205,7 @@ module _ (rows₀ keys₀ : List (List ℕ)) (store₀ page : List ℕ) (s : Spa
     -- ---- one part more
 
     module _ (rows keys : List (List ℕ)) (store : List ℕ) (top : Top) (e : ℕ) (w : Lifted rows keys store top e) where
-      pub all-is-lifted : e ≤ at .entry → Raised rows₀ keys₀ store₀ (fullTop rows₀ store₀ bytes) (recordsFrom s rows₀ keys₀ store₀ page at) rows keys store
+      pub all-is-lifted : e ≤ at .entry → Raised rows₀ keys₀ store₀ (fullTop room store₀ bytes) (recordsFrom s rows₀ keys₀ store₀ page at) rows keys store
       all-is-lifted h =
           let q : e ≡ at .entry = omega (arith, w .entry-in) in
           let k : kept e ≡ from at = kept-here e (omega (arith, g .there .entry-in)) ∙ ap from (same-cursor at e q) in
@@ -243,16 +243,16 @@ module _ (rows₀ keys₀ : List (List ℕ)) (store₀ page : List ℕ) (s : Spa
           kept-is : kept e ≡ from (record { entry = e - 1 + 1; skip = 0 })
           kept-is = behind-an-entry (e - 1) low-in high-in e next-is l
 
-          below : e - 1 + 1 + length (kept e) ≤ length rows₀
+          below : e - 1 + 1 + length (kept e) ≤ room
           below = rw kept-is (g .entries-below (e - 1 + 1) (omega arith) (omega arith))
 
           row-same : getD rows (e - 1) [] ≡ getD rows₀ (e - 1) []
           row-same =
-              rw (w .raised .rows-are) (getD-under rows₀ (length rows₀) (rowsOf (insertsOf (bytes - total (kept e)) (kept e))) (omega (arith, rows-few, kept-room .few)) (omega arith) (e - 1) [] (omega (arith, rows-few, below)))
+              rw (w .raised .rows-are) (getD-under rows₀ room (rowsOf (insertsOf (bytes - total (kept e)) (kept e))) (omega (arith, rows-few, kept-room .few)) (g .room-in) (e - 1) [] (omega (arith, rows-few, below)))
 
           key-same : getD keys (e - 1) [] ≡ getD keys₀ (e - 1) []
           key-same =
-              rw (w .raised .keys-are) (getD-under keys₀ (length rows₀) (keysOf (insertsOf (bytes - total (kept e)) (kept e))) (omega (arith, keys-few, kept-room .few)) (omega (arith, g .kept .as-many)) (e - 1) [] (omega (arith, keys-few, below)))
+              rw (w .raised .keys-are) (getD-under keys₀ room (keysOf (insertsOf (bytes - total (kept e)) (kept e))) (omega (arith, keys-few, kept-room .few)) (omega (arith, g .room-in, g .kept .as-many)) (e - 1) [] (omega (arith, keys-few, below)))
 
           abbrev row : List ℕ
           row = getD rows₀ (e - 1) []

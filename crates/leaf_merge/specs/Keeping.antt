@@ -31,8 +31,8 @@ module _ (w : Work) (rows keys : List (List ℕ)) (store page : List ℕ) (at : 
   abbrev pub keptRecords : List Record
   keptRecords = recordsFrom (spanOf w page) rows keys store page at
 
-  -- a work whose lent things earn no refusal, and a cursor at the records that are kept, with their gauge
-  pub record Keeps (left : Gauge) : Type 0 where
+  -- a work whose lent things earn no refusal, and a cursor at the records that are kept, with their gauge; they may be raised to row `room`
+  pub record Keeps (left : Gauge) (room : ℕ) : Type 0 where
     pub ready : Ready w (listOf rows keys) store page
     pub in-place : placed (w .filled) 0 (take (w .used) (listOf rows keys)) ≡ true
     pub unused : every isZero (drop (w .filled) store) ≡ true
@@ -41,7 +41,9 @@ module _ (w : Work) (rows keys : List (List ℕ)) (store page : List ℕ) (at : 
     pub there : CursorIn rows page (spanOf w page) at
     pub left-counted : left .count ≡ length keptRecords
     pub left-summed : left .bytes ≡ total keptRecords
-    pub room : RoomToKeep (length rows) (length (pendingOf w (listOf rows keys) store page)) (w .used) (left .count)
+    pub room-in : room ≤ length rows
+    pub used-room : w .used ≤ room
+    pub room-is : RoomToKeep room (length (pendingOf w (listOf rows keys) store page)) (w .used) (left .count)
 
   -- "unused entries, entry fields and bytes are zero"
   abbrev pub keptList : ℕ → List Entry

@@ -13,9 +13,9 @@ use Rattle.leaf_cut.specs.Steps.{CursorIn, Kept}
 use Rattle.leaf_raise.specs.declared.Top.{Top}
 use Rattle.leaf_raise.specs.Raising.{RangeThere, EntryBelow}
 
--- nothing is raised yet, of records with so many bytes
-abbrev pub fullTop : List (List ℕ) → List ℕ → ℕ → Top
-fullTop rows store bytes = record { row = length rows; to = bytes; at = length store }
+-- nothing is raised yet, of records with so many bytes, which are to end at row `room` and at the store's end
+abbrev pub fullTop : ℕ → List ℕ → ℕ → Top
+fullTop room store bytes = record { row = room; to = bytes; at = length store }
 
 -- how many records of entry e stand before the cursor, where it stands in this entry or in one before
 unfoldable pub skipAt : Cursor → ℕ → ℕ
@@ -30,13 +30,14 @@ pub record PartBelow (rows keys : List (List ℕ)) (page : List ℕ) (s : Span) 
   pub entry : at .entry < s .used → EntryBelow page (getD rows (at .entry) []) (at .skip) top
   pub rest : s .used ≤ at .entry → RangeThere page (s .low + at .skip) (s .n)
 
--- records from a cursor on that can be raised: what is raised never covers an entry or a value that is still to be read
-pub record Raises (rows keys : List (List ℕ)) (store page : List ℕ) (s : Span) (at : Cursor) (bytes : ℕ) : Type 0 where
+-- records from a cursor on that can be raised to row `room`: what is raised never covers an entry or a value that is still to be read
+pub record Raises (rows keys : List (List ℕ)) (store page : List ℕ) (s : Span) (at : Cursor) (bytes room : ℕ) : Type 0 where
   pub kept : Kept rows keys store page s
   pub there : CursorIn rows page s at
   pub bytes-is : bytes ≡ total (recordsFrom s rows keys store page at)
-  pub few : length (recordsFrom s rows keys store page at) ≤ length rows
+  pub room-in : room ≤ length rows
+  pub few : length (recordsFrom s rows keys store page at) ≤ room
   pub short : bytes ≤ length store
-  pub entries-below : (i : ℕ) → at .entry < i → i ≤ s .used → i + length (recordsFrom s rows keys store page (record { entry = i; skip = 0 })) ≤ length rows
+  pub entries-below : (i : ℕ) → at .entry < i → i ≤ s .used → i + length (recordsFrom s rows keys store page (record { entry = i; skip = 0 })) ≤ room
   pub values-below : (i : ℕ) → i < s .used → getD (getD rows i []) 0 0 ≡ 1
       → getD (getD rows i []) 3 0 + total (recordsFrom s rows keys store page (record { entry = i + 1; skip = 0 })) ≤ length store

@@ -52,7 +52,7 @@ fn raise_part(
 // ---- all that is kept
 
 // How many records of entry e are not kept: only the cursor's own entry has some that are not.
-fn skip_at(at: Cursor, e: usize) -> usize
+pub fn skip_at(at: Cursor, e: usize) -> usize
     ensures { λ r. ⌜ r ≡ skipAt at e ⌝ }
 {
     if e == at.entry {
@@ -71,8 +71,8 @@ fn raise(
     at: Cursor,
     bytes: usize,
 )
-    requires { ⌜ Raises (now rows) (now keys) (now store) (now page) span at bytes ⌝ }
-    ensures { λ _. ⌜ Raised (now (rows .entry)) (now (keys .entry)) (now (store .entry)) (fullTop (now (rows .entry)) (now (store .entry)) bytes) (recordsFrom span (now (rows .entry)) (now (keys .entry)) (now (store .entry)) (now (page .entry)) at) (now (rows .exit)) (now (keys .exit)) (now (store .exit)) ⌝ }
+    requires { ⌜ Raises (now rows) (now keys) (now store) (now page) span at bytes (length (now rows)) ⌝ }
+    ensures { λ _. ⌜ Raised (now (rows .entry)) (now (keys .entry)) (now (store .entry)) (fullTop (length (now (rows .entry))) (now (store .entry)) bytes) (recordsFrom span (now (rows .entry)) (now (keys .entry)) (now (store .entry)) (now (page .entry)) at) (now (rows .exit)) (now (keys .exit)) (now (store .exit)) ⌝ }
 {
     let mut top = Top {
         row: rows.len(),
@@ -101,7 +101,7 @@ pub fn prepare_merge_ops(
     at: Cursor,
     left: Gauge,
 )
-    requires { ⌜ (Keeps work (now rows) (now keys) (now store) (now page) at left) × (n ≡ count (now page)) ⌝ }
+    requires { ⌜ (Keeps work (now rows) (now keys) (now store) (now page) at left (length (now rows))) × (n ≡ count (now page)) ⌝ }
     ensures { λ _. ⌜ KeptAs work (now (rows .entry)) (now (keys .entry)) (now (store .entry)) (now (page .entry)) at (now (rows .exit)) (now (keys .exit)) (now (store .exit)) ⌝ }
 {
     let span = Span {

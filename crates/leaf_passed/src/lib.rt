@@ -184,10 +184,25 @@ pub fn begin_unused(count: usize) -> Unused
     }
 }
 
+fn length_of(bytes: &[u8]) -> usize
+    ensures { λ r. ⌜ r ≡ length (now (bytes .entry)) ⌝ }
+{
+    bytes.len()
+}
+
+// That a key of a list has 32 bytes is known of one that was lent as bytes. The compiler drops the call.
+pub fn key_length(key: &[u8; 32]) -> usize
+    ensures { λ r. ⌜ (r ≡ 32) × (length (now (key .entry)) ≡ 32) ⌝ }
+{
+    length_of(key)
+}
+
 // The same after one more entry.
 pub fn unused_one(at: Unused, entry: Entry) -> Unused
-    ensures { λ r. ⌜ r ≡ unusedOne at entry ⌝ }
+    ensures { λ r. ⌜ (r ≡ unusedOne at entry) × (length (entry .key) ≡ 32) ⌝ }
 {
+    let key = entry.key;
+    key_length(&key);
     if at.left == 0 {
         return Unused {
             left: 0,
@@ -308,7 +323,7 @@ pub fn closed_at(work: Work, at: Passing, entries: usize, store: &[u8], size: us
 
 // ---- a pending record by its index
 
-fn records_in_entry(entry: Entry) -> usize
+pub fn records_in_entry(entry: Entry) -> usize
     ensures { λ r. ⌜ r ≡ recordsIn entry ⌝ }
 {
     if entry.kind == 1 {

@@ -1,6 +1,6 @@
 -- Records as inserts: how many, and those of two lists. Assumes nothing.
 use mathlib.Core.Path.{_≡_, sym, ap, _∙_}
-use mathlib.Core.List.{List, [], _∷_, _++_, map}
+use mathlib.Core.List.{List, [], _∷_, _++_}
 use Prim.Native.Nat.{ℕ, _+_}
 use native.Mathlib.Omega.{arith}
 use native.Mathlib.Nat.{add-zero}
@@ -8,17 +8,10 @@ use lib.ListN.{length, length-map}
 use Rattle.leaf_node.specs.Record.{Record, total}
 use Rattle.leaf_work.specs.declared.Entry.{Entry}
 use Rattle.leaf_work.specs.Lent.{insertAt}
-use Rattle.leaf_work.specs.Flat.{rowOf}
+use Rattle.leaf_work.specs.Flat.{rowOf, rowsOf, keysOf}
 use Rattle.leaf_work.specs.Tests.{bit}
 use Rattle.leaf_work.specs.Digest.{insertsOf}
 use Rattle.leaf_work.proofs.Operations.{puts, puts-entries, puts-length, entries-length}
-
--- rows and keys of a list of entries
-abbrev pub rowsOf : List Entry → List (List ℕ)
-rowsOf es = map rowOf es
-
-abbrev pub keysOf : List Entry → List (List ℕ)
-keysOf es = map (λ e. e .key) es
 
 pub inserts-append : (at : ℕ) (rs ss : List Record) → insertsOf at (rs ++ ss) ≡ insertsOf at rs ++ insertsOf (at + total rs) ss
 unfolding total

@@ -11,7 +11,7 @@ use Rattle.leaf_node.proofs.Lengths.{length-values, values-append}
 use Rattle.leaf_work.specs.declared.Entry.{Entry}
 use Rattle.leaf_work.specs.Tests.{bit}
 use Rattle.leaf_work.specs.Lent.{insertAt}
-use Rattle.leaf_work.specs.Flat.{rowOf}
+use Rattle.leaf_work.specs.Flat.{rowOf, rowsOf, keysOf}
 use Rattle.leaf_work.specs.Digest.{insertsOf}
 use Rattle.leaf_work.proofs.Tests.{map-append}
 use Rattle.leaf_work.proofs.Operations.{total-append}
@@ -20,7 +20,7 @@ use Rattle.leaf_move.specs.Moving.{under}
 use Rattle.leaf_move.proofs.Under.{under-none, length-under, under-under, under-one, put-under}
 use Rattle.leaf_raise.specs.declared.Top.{Top}
 use Rattle.leaf_raise.specs.Raising.{lowerBy, Room, Raised}
-use Rattle.leaf_raise.proofs.Inserts.{rowsOf, keysOf, inserts-append, rows-many, keys-many}
+use Rattle.leaf_raise.proofs.Inserts.{inserts-append, rows-many, keys-many}
 
 -- ---- one record
 

@@ -85,7 +85,7 @@ module _ (page : List ℕ) (i : ℕ) (h : RecordThere page i) where
 
 -- ---- a range of the base
 
-range-cons : (page : List ℕ) (i to : ℕ) → 0 < i → i ≤ to → recordsBetween page (i - 1) to ≡ (recordAt page (i - 1) ∷ []) ++ recordsBetween page i to
+pub range-cons : (page : List ℕ) (i to : ℕ) → 0 < i → i ≤ to → recordsBetween page (i - 1) to ≡ (recordAt page (i - 1) ∷ []) ++ recordsBetween page i to
 unfolding recordsBetween run
 range-cons page i to h k =
     let a : to - (i - 1) ≡ suc (to - i) = omega arith in

@@ -26,7 +26,7 @@ pub struct Top {
 // ---- one record
 
 // Room for one record, whose value has `len` bytes.
-fn lower(top: Top, len: usize) -> Top
+pub fn lower(top: Top, len: usize) -> Top
     requires { ⌜ (0 < top .row) × (len ≤ top .to) × (len ≤ top .at) ⌝ }
     ensures { λ r. ⌜ r ≡ lowerBy top 1 len ⌝ }
 {

@@ -1,6 +1,8 @@
 // The ingest by value: it takes what the pass over its list came to, and answers the entries that are to be listed.
 use leaf_check::regard;
 use leaf_entries::blank_entry;
+use leaf_entries::chunk_entry;
+use leaf_entries::insert_entry;
 use leaf_ingest::Change;
 use leaf_ingest::Kept;
 use leaf_ingest::Report;
@@ -128,19 +130,6 @@ fn place_of(listed: usize, used: usize, entries: usize) -> usize
     used
 }
 
-fn chunk_entry(low: usize, stop: usize, sum: usize) -> Entry
-    ensures { λ r. ⌜ r ≡ chunkOf low stop sum ⌝ }
-{
-    Entry {
-        kind: 2,
-        flag: 0,
-        from: low,
-        to: stop,
-        sum: sum,
-        key: [0u8; 32],
-    }
-}
-
 // A change's flag as a number.
 fn flag_of(change: Change) -> u8
     ensures { λ r. ⌜ r ≡ flagOf change ⌝ }
@@ -153,20 +142,6 @@ fn flag_of(change: Change) -> u8
             }
             0
         }
-    }
-}
-
-fn insert_entry(from: usize, to: usize, key: &[u8; 32], flag: u8) -> Entry
-    ensures { λ r. ⌜ r ≡ insertAt from to (now (key .entry)) flag ⌝ }
-{
-    let own = *key;
-    Entry {
-        kind: 1,
-        flag: flag,
-        from: from,
-        to: to,
-        sum: 0,
-        key: own,
     }
 }
 

@@ -1,6 +1,6 @@
 -- Document 01, "To the testers": "Each call's contract settles reply, work record and every lent byte from the inputs, refused calls as well".
 -- What the calls on a work answer and leave, in terms of the definitions that the claim speaks of: the contracts' own words. Primes are what
--- is there after the call. The digest's words are leaf_split's `DigestSays`.
+-- is there after the call. The digest's words are crate `digest`'s `DigestSays`.
 use mathlib.Core.Path.{_≡_}
 use mathlib.Core.Bool.{Bool}
 use mathlib.Core.Option.{Option}

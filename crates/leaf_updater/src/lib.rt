@@ -1,6 +1,8 @@
 // The calls as a firmware programmer links them: document 01's calls under C names with the prefix `leaf_`, refusals by
 // document 01's numbers. No call has a `requires`. An enum can't cross to C, so replies are structs of numbers; `specs/`
 // says which one stands for each case.
+use digest::digest;
+use leaf_digest::LeafGave;
 use leaf_entries::drain;
 use leaf_entries::insert;
 use leaf_entries::pass_entries;
@@ -11,7 +13,6 @@ use leaf_page::LeafValue;
 use leaf_page::bit;
 use leaf_passed::begin_seek;
 use leaf_pending::TwinPlace;
-use leaf_room::digest_list;
 use leaf_step::next_base_step;
 use leaf_step::open_step;
 use leaf_step::part_step;
@@ -21,7 +22,6 @@ use leaf_step::start_closed;
 use leaf_step::twin_step;
 use leaf_take::LeafReport;
 use leaf_take::ingest_step;
-use leaf_within::LeafGave;
 use leaf_work::Entry;
 use leaf_work::Work;
 ghost use mathlib.Core.Path.{_≡_};
@@ -39,7 +39,7 @@ ghost use Rattle.leaf_open.specs.Opening.{openingOf};
 ghost use Rattle.leaf_ingest.specs.Reply.{changeOf};
 ghost use Rattle.leaf_pending.specs.Reply.{twinOut};
 ghost use Rattle.leaf_take.specs.Reply.{changeGiven};
-ghost use Rattle.leaf_split.specs.Digests.{DigestSays};
+ghost use Rattle.digest.specs.Digests.{DigestSays};
 ghost use Rattle.leaf_updater.specs.Calls.{OpenSays, IngestSays, NextBaseSays, RemoveCutoffSays};
 ghost use Rattle.leaf_updater.specs.Copy.{copiedWhole};
 
@@ -190,7 +190,7 @@ pub extern "C" fn leaf_digest(
 ) -> LeafGave
     ensures { λ r. ⌜ DigestSays (now (work .entry)) (now (list .entry)) (now (store .entry)) (now (page .entry)) (now (area .entry)) (now (tickets .entry)) r (now (work .exit)) (now (list .exit)) (now (store .exit)) (now (area .exit)) (now (tickets .exit)) ⌝ }
 {
-    let step = digest_list(*work, list, store, page, area, tickets);
+    let step = digest(*work, list, store, page, area, tickets);
     *work = step.work;
     step.reply
 }

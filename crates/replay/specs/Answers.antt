@@ -7,7 +7,7 @@ use lib.ListN.{length, getD, take, drop}
 use Rattle.leaf_node.specs.Page.{word}
 use Rattle.leaf_node.specs.Build.{put}
 use Rattle.leaf_take.specs.declared.LeafReport.{LeafReport}
-use Rattle.leaf_within.specs.declared.LeafGave.{LeafGave}
+use Rattle.leaf_digest.specs.declared.LeafGave.{LeafGave}
 use Rattle.leaf_work.specs.Tests.{every}
 use Rattle.replay.specs.Parts.{hasAt, hasPart, isHeld}
 

@@ -36,6 +36,7 @@ use denote.Triple.Table.{entered, cited}
 use denote.Triple.Walked.{needs, Stays, stay-none, stay-none-slice, walkOf, goes-none, goes-none-slice, Walks, ends-at, walked, walk-meets, says as k-says}
 use denote.Exit.{yes}
 use denote.Signature.{plain}
+use Rattle.leaf_node.specs.Fits.{All}
 use Rattle.leaf_passed.specs.Passed.{PassingOn, passedOver}
 use Rattle.leaf_passed.specs.Behind.{lesserOf, unusedFrom, unusedOver, marked}
 use Rattle.leaf_passed.proofs.Behind.{the-pass-over-all, those-are-the-used-ones}
@@ -152,7 +153,7 @@ module _ {M : Type 1} (𝓤 : URA M) (H : Heap 𝓤) (A : Atoms 𝓤) (W : Given
         qed W (‵ (flft κ₀ q₀) ∷ ‵ (ShrSlice (named 0) κ₀ Entry-type.the-row .own (record { ptr = (b-list, o-list); name = γ-list; now = list }) (sliceVal (b-list, o-list) n-list ∷ [])) ∷ []) ∵ k-nothing ! $ k-owned ! Unused-type.the-row (Is Unused-type.the-row) (LL.makes Unused-type.the-type Unused-laws.the-plain 𝓤 H A) start _ is-start $ k-fjoin ! $ k-move ! (2 ∷ 0 ∷ []) $ k-fjoin ! $ k-nothing ! $ k-move ! (2 ∷ 0 ∷ []) $ k-join ! $ k-join ! $ k-frame ! $ k-done !
 
   abbrev Said₃ : (list : List Entry) (start : Unused) (r : Unused) → Type 0
-  Said₃ list start r = r ≡ unusedOver start (list)
+  Said₃ list start r = (r ≡ unusedOver start (list)) × (All (λ e. length (e .key) ≡ 32) (list))
 
   -- `pass_first`, whatever it is called with
   module _ (κ₀ : Lft) (q₀ : Share) (κ₁ : Lft) (q₁ : Share) (b-list o-list : ℕ) (γ-list : GName) (list : List Entry) (n-list : ℕ) (b-page o-page : ℕ) (γ-page : GName) (page : List ℕ) (n-page : ℕ) (start : Passing) (w-start : Val) (count : ℕ) (w-count : Val) where
@@ -213,7 +214,7 @@ module _ {M : Type 1} (𝓤 : URA M) (H : Heap 𝓤) (A : Atoms 𝓤) (W : Given
   abbrev Post : Val → SProp 𝓤
   Post = walkOf 𝓤 H A own.ended stayed (own.clauses 𝓤 H A at-mem run) .post (((κ₀, (κ₁, tt)), (q₀, (q₁, tt)), tt, the-args, the-vals), tt)
 
-  the-exit : (r : Passing) (w : Val) → Is Passing-type.the-row r (w ∷ []) → ((r ≡ passedOver (page) start (list)) × (PassingOn r (page))) → ent 𝓤 (⋆ 𝓤 H A (‵ (flft κ₀ q₀) ∷ ‵ (flft κ₁ q₁) ∷ ‵ (Own-list list) ∷ ‵ (Own-page page) ∷ [])) (Post w)
+  the-exit : (r : Passing) (w : Val) → Is Passing-type.the-row r (w ∷ []) → ((r ≡ passedOver (page) start (list)) × (PassingOn r (page)) × (All (λ e. length (e .key) ≡ 32) (list))) → ent 𝓤 (⋆ 𝓤 H A (‵ (flft κ₀ q₀) ∷ ‵ (flft κ₁ q₁) ∷ ‵ (Own-list list) ∷ ‵ (Own-page page) ∷ [])) (Post w)
   the-exit r w is fact-of =
       qed W (‵ (flft κ₀ q₀) ∷ ‵ (flft κ₁ q₁) ∷ ‵ (Own-list list) ∷ ‵ (Own-page page) ∷ []) ∵ k-suffices ! _ (ends-at 𝓤 H A own.ended stayed (own.clauses 𝓤 H A at-mem run) W (((κ₀, (κ₁, tt)), (q₀, (q₁, tt)), tt, the-args, the-vals), tt) w r (tt, (tt, (tt, tt))) (tt, (tt, (tt, tt)))) $ k-says ! fact-of $ k-nothing ! $ k-move ! (2 ∷ 0 ∷ []) $ k-join ! $ k-move ! (1 ∷ 0 ∷ []) $ k-join ! $ k-frame ! $ k-nothing ! $ k-owned ! Passing-type.the-row (Is Passing-type.the-row) (LL.makes Passing-type.the-type Passing-laws.the-plain 𝓤 H A) start _ is-start $ k-fjoin ! $ k-move ! (2 ∷ 0 ∷ []) $ k-fjoin ! $ k-move ! (1 ∷ 0 ∷ []) $ k-fjoin ! $ k-owned ! Passing-type.the-row (Is Passing-type.the-row) (LL.makes Passing-type.the-type Passing-laws.the-plain 𝓤 H A) r _ is $ k-move ! (1 ∷ 0 ∷ []) $ k-done !
 
@@ -301,7 +302,7 @@ module _ {M : Type 1} (𝓤 : URA M) (H : Heap 𝓤) (A : Atoms 𝓤) (W : Given
         k-drop ! $
         k-returns ! (k-look ! 20 refl) $ all-freed W (_ ∷ _ ∷ _ ∷ _ ∷ []) (has _ ∷ has _ ∷ has _ ∷ has _ ∷ has _ ∷ has _ ∷ has _ ∷ has _ ∷ has _ ∷ []) $
         k-keep ! (1 ∷ 0 ∷ 3 ∷ 2 ∷ []) $
-        k-by ! (the-exit r₅ w₅ is₅ ((the-pass-over-all page start list r₁ (those-are-the-used-ones page start list r₁ (f₁ .0)) r₄ (f₄ .0) r₃ (f₃ ∙ ap (λ (y : Unused). unusedOver y list) f₂) r₅ (f₅ .0), f₅ .1 page (f₄ .1)))))))))))))))))))))))))))))))))
+        k-by ! (the-exit r₅ w₅ is₅ ((the-pass-over-all page start list r₁ (those-are-the-used-ones page start list r₁ (f₁ .0)) r₄ (f₄ .0) r₃ (f₃ .0 ∙ ap (λ (y : Unused). unusedOver y list) f₂) r₅ (f₅ .0), f₅ .1 page (f₄ .1), f₃ .1))))))))))))))))))))))))))))))))
 
 module _ {M : Type 1} (𝓤 : URA M) (H : Heap 𝓤) (A : Atoms 𝓤) (W : Given 𝓤 H A) (mem : Memory → SProp 𝓤) (run : Routine → Fun 𝓤) (𝓣 : Tables 𝓤 H) (known₁ : Triple 𝓤 (𝓣 .C #leaf-passed·first-count) (Callee₁ 𝓤 H A mem run)) (known₂ : Triple 𝓤 (𝓣 .C #leaf-passed·begin-unused) (Callee₂ 𝓤 H A mem run)) (known₃ : Triple 𝓤 (𝓣 .C #leaf-entries·unused-entries) (Callee₃ 𝓤 H A mem run)) (known₄ : Triple 𝓤 (𝓣 .C #leaf-entries·pass-first) (Callee₄ 𝓤 H A mem run)) (known₅ : Triple 𝓤 (𝓣 .C #leaf-passed·mark) (Callee₅ 𝓤 H A mem run)) where
   pass-entries-walks : Walks 𝓤 H A own.ended stayed (WpFn 𝓤 H (𝓣 .C) (𝓣 .Λ) code.function) (own.clauses 𝓤 H A mem run)

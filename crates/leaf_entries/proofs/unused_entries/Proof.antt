@@ -46,10 +46,11 @@ use denote.Triple.Table.{entered, cited}
 use denote.Triple.Walked.{Stays, stay-none, stay-none-slice, walkOf, goes-none, goes-none-slice, Walks, ends-at, walked, walk-meets, says as k-says}
 use denote.Exit.{yes}
 use denote.Signature.{plain}
+use Rattle.leaf_node.specs.Fits.{All, nil}
 use Rattle.leaf_passed.specs.Behind.{unusedOver, unusedOne}
 use native.Mathlib.Nat.{le-antisymm}
 use Rattle.leaf_work.specs.Lent.{blank}
-use Rattle.leaf_entries.proofs.Folded.{folded, folding-none, folding-one-more, folding-all, unused-folds}
+use Rattle.leaf_entries.proofs.Folded.{folded, folding-none, folding-one-more, folding-all, unused-folds, finding-one-more, finding-all}
 use denote.Struct.Laws as LL
 use Rattle.leaf_entries.proofs.Locals.{tyAt}
 use Rattle.leaf_entries.proofs.Freed.{all-freed, stands, sinks, cells}
@@ -99,7 +100,7 @@ module _ {M : Type 1} (𝓤 : URA M) (H : Heap 𝓤) (A : Atoms 𝓤) (W : Given
         qed W ([]) ∵ k-nothing ! $ k-owned ! Entry-type.the-row (Is Entry-type.the-row) (LL.makes Entry-type.the-type Entry-laws.the-plain 𝓤 H A) entry _ is-entry $ k-fjoin ! $ k-owned ! Unused-type.the-row (Is Unused-type.the-row) (LL.makes Unused-type.the-type Unused-laws.the-plain 𝓤 H A) at _ is-at $ k-fjoin ! $ k-nothing ! $ k-join ! $ k-frame ! $ k-done !
 
   abbrev Said₁ : (at : Unused) (entry : Entry) (r : Unused) → Type 0
-  Said₁ at entry r = r ≡ unusedOne at entry
+  Said₁ at entry r = (r ≡ unusedOne at entry) × (length (entry .key) ≡ 32)
 
 module _ {M : Type 1} (𝓤 : URA M) (H : Heap 𝓤) (A : Atoms 𝓤) (W : Given 𝓤 H A) (at-mem : Memory → SProp 𝓤) (run : Routine → Fun 𝓤)
     (κ₀ : Lft) (q₀ : Share) (b-list o-list : ℕ) (γ-list : GName) (list : List Entry) (room-list : Room Entry-type.the-row (length list)) (start : Unused) (is-start : Is Unused-type.the-row start (mach-Unused start ∷ [])) where
@@ -121,7 +122,7 @@ module _ {M : Type 1} (𝓤 : URA M) (H : Heap 𝓤) (A : Atoms 𝓤) (W : Given
   abbrev Post : Val → SProp 𝓤
   Post = walkOf 𝓤 H A own.ended stayed (own.clauses 𝓤 H A at-mem run) .post (((κ₀, tt), (q₀, tt), tt, the-args, the-vals), tt)
 
-  the-exit : (r : Unused) (w : Val) → Is Unused-type.the-row r (w ∷ []) → (r ≡ unusedOver start (list)) → ent 𝓤 (⋆ 𝓤 H A (‵ (flft κ₀ q₀) ∷ ‵ (Own-list list) ∷ [])) (Post w)
+  the-exit : (r : Unused) (w : Val) → Is Unused-type.the-row r (w ∷ []) → ((r ≡ unusedOver start (list)) × (All (λ e. length (e .key) ≡ 32) (list))) → ent 𝓤 (⋆ 𝓤 H A (‵ (flft κ₀ q₀) ∷ ‵ (Own-list list) ∷ [])) (Post w)
   the-exit r w is fact-of =
       qed W (‵ (flft κ₀ q₀) ∷ ‵ (Own-list list) ∷ []) ∵ k-suffices ! _ (ends-at 𝓤 H A own.ended stayed (own.clauses 𝓤 H A at-mem run) W (((κ₀, tt), (q₀, tt), tt, the-args, the-vals), tt) w r (tt, (tt, tt)) (tt, (tt, tt))) $ k-says ! fact-of $ k-nothing ! $ k-move ! (1 ∷ 0 ∷ []) $ k-join ! $ k-frame ! $ k-nothing ! $ k-owned ! Unused-type.the-row (Is Unused-type.the-row) (LL.makes Unused-type.the-type Unused-laws.the-plain 𝓤 H A) start _ is-start $ k-fjoin ! $ k-move ! (1 ∷ 0 ∷ []) $ k-fjoin ! $ k-owned ! Unused-type.the-row (Is Unused-type.the-row) (LL.makes Unused-type.the-type Unused-laws.the-plain 𝓤 H A) r _ is $ k-move ! (1 ∷ 0 ∷ []) $ k-done !
 
@@ -130,7 +131,7 @@ module _ {M : Type 1} (𝓤 : URA M) (H : Heap 𝓤) (A : Atoms 𝓤) (W : Given
 
   -- what is known at an index
   abbrev Known : ℕ → Type 0
-  Known i = i ≤ length list
+  Known i = (i ≤ length list) × (All (λ (e : Entry). length (e .key) ≡ 32) (take i list))
 
   abbrev Inv : ℕ → Type 0
   Inv i = (i < 2 ^ 64) × ((Is Unused-type.the-row (state₀ i) ((mach-Unused (state₀ i)) ∷ [])) × (Known i))
@@ -148,14 +149,14 @@ module _ {M : Type 1} (𝓤 : URA M) (H : Heap 𝓤) (A : Atoms 𝓤) (W : Given
   inside-list i less known = less
 
   begins : (state₀ 0 ≡ start) × (Known 0)
-  begins = (folding-none unusedOne start list, zero-le)
+  begins = (folding-none unusedOne start list, (zero-le, nil))
 
   steps : (i : ℕ) → i < (length list) → Known i → (r₁ : Unused) → (Said₁ 𝓤 H A W at-mem run (state₀ i) (getD list i blank) r₁) → (r₁ ≡ state₀ (i + 1)) × (Known (i + 1))
   steps i less known r₁ f₁ =
-      (f₁ ∙ sym (folding-one-more unusedOne start list i blank less), add-one-le less)
+      (f₁ .0 ∙ sym (folding-one-more unusedOne start list i blank less), (add-one-le less, finding-one-more list i blank less (known .1) (f₁ .1)))
 
-  ends : (i : ℕ) → (length list) ≤ i → Known i → (state₀ i) ≡ unusedOver start (list)
-  ends i past known = ap (λ (k : ℕ). folded unusedOne start (take k list)) (le-antisymm known past) ∙ folding-all unusedOne start list ∙ unused-folds start list
+  ends : (i : ℕ) → (length list) ≤ i → Known i → ((state₀ i) ≡ unusedOver start (list)) × (All (λ e. length (e .key) ≡ 32) (list))
+  ends i past known = (ap (λ (k : ℕ). folded unusedOne start (take k list)) (le-antisymm (known .0) past) ∙ folding-all unusedOne start list ∙ unused-folds start list, finding-all list i past (known .1))
 
   module _ (𝓣 : Tables 𝓤 H) (known₁ : Triple 𝓤 (𝓣 .C #leaf-passed·unused-one) (Callee₁ 𝓤 H A at-mem run)) where
     module _ (l₀ l₁ l₂ l₃ l₄ l₅ l₆ l₇ l₈ l₉ : ℕ) (share-list : Share) where

@@ -1,5 +1,6 @@
 -- `leaf_merge::raise` meets its contract. The invariant: the records from entry e on are raised.
 -- Assumes nothing.
+use lib.ListN.{length}
 use Rattle.leaf_merge.proofs.Walk.{Lifted, nothing-is-lifted, the-entries-are-few, the-part-is-below, the-part-has-room, a-part-is-lifted, all-is-lifted}
 use borrow.Author.Needs.{needs}
 use Rattle.leaf_merge.proofs.raise.Statement.{statement}
@@ -7,7 +8,7 @@ use Rattle.leaf_merge.proofs.raise.Tie as tie
 
 abbrev Inv-loop : tie.InvT-loop
 Inv-loop rows₀ keys₀ store₀ page span at bytes top₀ e₀ rows keys store top e =
-    Lifted rows₀ keys₀ store₀ page span at bytes rows keys store top e
+    Lifted rows₀ keys₀ store₀ page span at bytes (length rows₀) rows keys store top e
 
 abbrev μ-loop : tie.MeasureT-loop
 μ-loop rows₀ keys₀ store₀ page span at bytes top₀ e₀ rows keys store top e = e

@@ -1,0 +1,3 @@
+-- The laws of a digest over a list of entries.
+pub mod Digesting
+pub mod Calls
