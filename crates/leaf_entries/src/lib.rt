@@ -13,7 +13,7 @@ use leaf_work::Entry;
 ghost use mathlib.Core.Path.{_≡_};
 ghost use mathlib.Core.List.{map};
 ghost use Prim.Native.Nat.{_≤_};
-ghost use lib.ListN.{length, set, take};
+ghost use lib.ListN.{length, getD, set, take};
 ghost use Rattle.leaf_model.specs.Basics.{cleared};
 ghost use Rattle.leaf_work.specs.Lent.{blank};
 ghost use Rattle.leaf_work.specs.Flat.{rowOf};
@@ -26,7 +26,7 @@ ghost use Rattle.leaf_entries.specs.Lists.{narrowed, gathered};
 // ---- one entry, by value
 
 // An entry's numbers.
-fn row_of(entry: Entry) -> [usize; 5]
+pub fn row_of(entry: Entry) -> [usize; 5]
     ensures { λ r. ⌜ r ≡ rowOf entry ⌝ }
 {
     let kind = entry.kind as usize;
@@ -65,6 +65,19 @@ pub fn blank_entry() -> Entry
 }
 
 // ---- the list is read
+
+// Entry `at`, or an unused one where the list has none there.
+pub fn read(list: &[Entry], at: usize) -> Entry
+    ensures { λ r. ⌜ r ≡ getD (now (list .entry)) at blank ⌝ }
+{
+    if at < list.len() {
+        let entry = list[at];
+        entry
+    } else {
+        let entry = blank_entry();
+        entry
+    }
+}
 
 // The pass over the first `count` entries.
 fn pass_first(list: &[Entry], page: &[u8], start: Passing, count: usize) -> Passing

@@ -23,6 +23,13 @@ listOf rows keys = elim (eqb (length rows) (length keys)) [ true ↦ entriesOf r
 abbrev pub rowOf : Entry → List ℕ
 rowOf e = e .kind ∷ e .flag ∷ e .from ∷ e .to ∷ e .sum ∷ []
 
+-- the rows and the keys of a list
+abbrev pub rowsOf : List Entry → List (List ℕ)
+rowsOf list = map rowOf list
+
+abbrev pub keysOf : List Entry → List (List ℕ)
+keysOf list = map (λ e. e .key) list
+
 -- what a call leaves in rows and keys: those of its list where it is accepted, else what they held
 abbrev pub rowsAfter : ℕ → List Entry → List (List ℕ) → List (List ℕ)
 rowsAfter number list rows = elim (eqb number accepted) [ true ↦ map rowOf list | false ↦ rows ]
