@@ -29,6 +29,7 @@ class Loop:
         holds = self.walk.context.holds
         test = next(st[2] for st in flat(self.turn) if st[0] == "assign" and st[2][0] == "op2" and operator(st[2]) == "lt")
         self.index, bound = place(test[2][1])[0], place(test[3][1])[0]
+        self.bound_local = bound
         if holds[bound] is not None:
             self.bound, self.bound_fits = holds[bound].den, holds[bound].fits
             return
@@ -67,6 +68,18 @@ class Loop:
         self.at, self.of_u, self.inv = ("S", "(u .1 .0)", "u .1 .1") if self.free else ("i", "(u .0)", "u .1")
         self.bind, self.arg = (" (S : St)", " S") if self.free else ("", "")
         self.known = "Known i S" if self.free else "Known i"
+        self.find_most()
+
+    def find_most(self):
+        """A bound that a turn changes is one of the carried values; what it was at the start says how many turns there are at most."""
+        self.most, self.bound_of_u = self.bound, self.bound
+        if self.bound_local in self.carried:
+            n = self.carried.index(self.bound_local)
+            self.bound, self.bound_of_u = f"({self.state(n)})", f"({self.state(n, self.of_u)})"
+
+    def below_most(self, known):
+        """That the index is below what the bound was at the start, from `less`."""
+        return "less" if self.bound == self.most else f"(still-below i{self.arg} less {known})"
 
     def lent_in_turn(self):
         walk = self.walk
@@ -115,15 +128,25 @@ class Loop:
 
     def invariant_defs(self):
         """What holds at an index, and that each turn comes nearer to the bound."""
-        rows, source, bound = self.rows, "St → " if self.free else "", self.bound
+        rows, source, most = self.rows, "St → " if self.free else "", self.most
         of_state = [f"Is {rows.row(self.local_type(n))} ({self.state(n)}) ({rows.machine(self.local_type(n), self.state(n))} ∷ [])" for n in range(len(self.carried))]
         self.lengths = [f"length (list-{x.name} {self.at}) ≡ length {x.name}" for x in self.turned]
         self.clauses = ["i < 2 ^ 64"] + of_state + self.lengths
         upto = "(i : ℕ) × ((S : St) × Inv i S)" if self.free else "(i : ℕ) × Inv i"
         return ["  -- what is known at an index", f"  abbrev Known : ℕ → {source}Type 0", f"  {self.known} = {self.said.get('known', 'Unit {0}')}", "",
                 f"  abbrev Inv : ℕ → {source}Type 0", f"  Inv i{self.arg} = {pairs(self.clauses, self.known)}", "", "  abbrev Upto : Type 0", f"  Upto = {upto}", "",
-                "  abbrev Nearer : Upto → Upto → Type 0", f"  Nearer v u = {bound} - v .0 < {bound} - u .0", "",
-                "  Nearer-wf : WellFounded Nearer", f"  Nearer-wf = InvImage·wf (λ (u : Upto). {bound} - u .0) (Nat·lt-wfRel .wf)", ""]
+                "  abbrev Nearer : Upto → Upto → Type 0", f"  Nearer v u = {most} - v .0 < {most} - u .0", "",
+                "  Nearer-wf : WellFounded Nearer", f"  Nearer-wf = InvImage·wf (λ (u : Upto). {most} - u .0) (Nat·lt-wfRel .wf)", ""] + self.bounded_defs()
+
+    def bounded_defs(self):
+        """That a bound which a turn changes is no more than it was at the start."""
+        if self.bound == self.most:
+            return []
+        asked = f"{self.bound} ≤ {self.most}"
+        proof = said(self.said, "bounded", "loop.bounded", asked)
+        return [f"  bounded : (i : ℕ){self.bind} → {self.known} → {asked}", f"  bounded i{self.arg} known = {proof}", "",
+                f"  still-below : (i : ℕ){self.bind} → i < {self.bound} → {self.known} → i < {self.most}",
+                f"  still-below i{self.arg} less known = omega (arith, less, bounded i{self.arg} known)", ""]
 
     def inside_defs(self):
         """That the index lies in each list that is opened."""
@@ -247,7 +270,7 @@ class Loop:
                 c.step(f"forget ! {c.place(k)} refl $")
         c.move(*self.order)
         end = nest(nexts, stepped + " .1" * len(results))
-        c.step(f"again ! Nearer At u (i + 1, {f'({nextly}, {end})' if self.free else end}) (add-one-dec {self.bound} i less)")
+        c.step(f"again ! Nearer At u (i + 1, {f'({nextly}, {end})' if self.free else end}) (add-one-dec {self.most} i {self.below_most(self.known_now())})")
         return c
 
     def moved_on(self, stepped):
@@ -301,11 +324,11 @@ class Loop:
                 lets.append(f"let in-{p} = at-{p} in")
             if size != 1:
                 lets.append(f"let f-mul-{size} : i * {size} < 2 ^ 64 = omega (arith, room-{p} .1, at-{p}) in")
-        fits = f"room-{self.opened[0].name} .0, at-{self.opened[0].name}" if self.opened else f"{self.bound_fits}, less"
+        fits = f"room-{self.opened[0].name} .0, at-{self.opened[0].name}" if self.opened else f"{self.bound_fits}, {self.below_most('known')}"
         return lets + [f"let f-add : i + 1 < 2 ^ 64 = omega (arith, {fits}) in"]
 
     def lemma_lines(self, more, over):
-        walk, bound = self.walk, self.bound
+        walk, bound = self.walk, self.bound_of_u
         after = "(atReturn 𝓤 H En Post)"
         turned = f"afterTurn 𝓤 H (Below 𝓤 H A Nearer At u) (afterBlock 𝓤 H (afterSeq 𝓤 H (Wp 𝓤 H (𝓣 .C) (𝓣 .Λ) En {self.tail} {after}) {after}))"
         shares = f"({' '.join(self.shares())} : Share) " if self.shares() else ""

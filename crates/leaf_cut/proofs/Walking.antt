@@ -203,7 +203,7 @@ module _ (limit target : ℕ) (rows : List (List ℕ)) (page : List ℕ) (s : Sp
         the-leaf-ends-in-the-entry c = record { ended = q ∙ sym (so-far ∙ within .cut (sym cut-is ∙ c)); further = further; there = there }
 
         module _ (c : t .end .cut ≡ false) where
-          all-taken : t .at ≡ next
+          pub all-taken : t .at ≡ next
           unfolding passedBy
           all-taken =
               let e : t .end .count - leaf .count ≡ pieceCount (pieceOf row (at .skip)) = omega (arith, count-is, counted, within .whole (sym cut-is ∙ c)) in

@@ -296,7 +296,7 @@ fn pass(at: Cursor, all: usize, taken: usize) -> Cursor
 }
 
 // A leaf that comes to an entry.
-fn consume_entry(
+pub fn consume_entry(
     row: [usize; 5],
     page: &[u8],
     n: usize,
@@ -317,7 +317,7 @@ fn consume_entry(
 }
 
 // A leaf that comes to the base's rest.
-fn consume_rest(
+pub fn consume_rest(
     page: &[u8],
     span: Span,
     skip: usize,

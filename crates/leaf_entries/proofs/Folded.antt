@@ -66,8 +66,3 @@ module _ {A : Type 0} {P : A → Type 0} where
 
   pub finding-all : (l : List A) (i : ℕ) → length l ≤ i → All P (take i l) → All P l
   finding-all l i h a = subst (All P) (take-all i l h) a
-
-pub nothing-behind-the-end : {A : Type 0} (l : List A) (i : ℕ) (d : A) → length l ≤ i → getD l i d ≡ d
-nothing-behind-the-end [] i d h = refl
-nothing-behind-the-end (x ∷ xs) zero d h = absurd (not-suc-le-zero h)
-nothing-behind-the-end (x ∷ xs) (suc i) d h = nothing-behind-the-end xs i d (le-of-suc-le-suc h)

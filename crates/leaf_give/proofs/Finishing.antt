@@ -23,7 +23,6 @@ use Rattle.leaf_work.specs.Tests.{isSet, keyIf}
 use Rattle.leaf_work.specs.Lent.{cutoffOf, separatorOf}
 use Rattle.leaf_work.specs.Digest.{overwrite}
 use Rattle.leaf_cut.specs.declared.Gauge.{Gauge}
-use Rattle.leaf_cut.specs.declared.Target.{Target}
 use Rattle.leaf_cut.specs.declared.Span.{Span}
 use Rattle.leaf_cut.specs.declared.Cursor.{Cursor}
 use Rattle.leaf_cut.specs.Sizes.{targetIn}
@@ -32,8 +31,9 @@ use Rattle.leaf_cut.specs.Steps.{Modest, Rest, CursorIn, Kept}
 use Rattle.leaf_cut.proofs.Records.{what-is-ready-is-spread, what-is-ready-is-kept}
 use Rattle.leaf_write.proofs.Leaves.{rest-many}
 use Rattle.leaf_give.specs.declared.Progress.{Progress}
+use Rattle.leaf_give.specs.declared.Beginning.{Beginning}
 use Rattle.leaf_give.specs.Giving.{pending, Gives, GivenOut}
-use Rattle.leaf_give.specs.Steps.{LeafThere, LeafGiven, Along, Begun}
+use Rattle.leaf_give.specs.Steps.{LeafThere, LeafGiven, Along, Begun, listedIn, BegunBy}
 use Rattle.leaf_give.proofs.Separating.{the-pages-are-those-of-the-records}
 use Rattle.leaf_give.proofs.Onward.{no-leaf-is-given-yet, the-area-has-room, the-tickets-have-room, one-more-leaf-is-given}
 use Rattle.leaf_give.proofs.LeafByLeaf.{spanBy, spanned, left-keyed, left-rises}
@@ -41,6 +41,10 @@ use Rattle.leaf_give.proofs.LeafByLeaf.{spanBy, spanned, left-keyed, le
 empty : {A : Type 0} (xs : List A) → length xs ≡ 0 → xs ≡ []
 empty [] h = refl
 empty (x ∷ xs) h = absurd (omega arith)
+
+-- a separator, copied
+pub a-copied-separator : (w : Work) (own first : List ℕ) → own ≡ separatorOf w → first ≡ own → first ≡ separatorOf w
+a-copied-separator w own first o f = f ∙ o
 
 -- ---- step 4
 
@@ -80,48 +84,48 @@ module _ (size : ℕ) (w : Work) (rows keys : List (List ℕ)) (store page area 
         let r = what-is-ready-is-spread w rows keys store page (g .ready) .rest in
         rw e r
 
-    pub what-is-listed-is-modest : Modest (record { count = w .count; bytes = w .bytes })
+    pub what-is-listed-is-modest : Modest (listedIn w)
     what-is-listed-is-modest = record {
       few = omega (arith, g .ready .few);
       short = omega (arith, g .ready .store-room, g .ready .store-short);
     }
 
-    module _ (u : Gauge) (c : u .count ≡ w .count + (n - w .low)) (b : u .bytes ≡ w .bytes + valuesSize page (w .low) n) where
+    module _ (b : Beginning) (h : BegunBy size w page n b) where
+      abbrev u : Gauge
+      u = b .start .left
+
       count-all : u .count ≡ length all
-      count-all = omega (arith, c, g .counted, e)
+      count-all = omega (arith, h .count-is, g .counted, e)
 
       bytes-all : u .bytes ≡ total all
-      bytes-all = b ∙ ap (λ (m : ℕ). w .bytes + valuesSize page (w .low) m) e ∙ sym (g .summed)
+      bytes-all = h .bytes-is ∙ ap (λ (m : ℕ). w .bytes + valuesSize page (w .low) m) e ∙ sym (g .summed)
 
       body-all : 34 * u .count + u .bytes ≡ body all
       body-all = omega (arith, count-all, bytes-all, body-is-pointers-and-values all)
 
-      pub giving-begins : (own first : List ℕ) → own ≡ separatorOf w → first ≡ own → length first ≡ 32
-          → Begun size w rows keys store page (record { at = record { entry = 0; skip = 0 }; left = u; leaves = 0; place = 0; separator = first })
-      giving-begins own first o f l = record {
-        at-is = refl;
-        leaves-are = refl;
-        place-is = refl;
+      pub giving-begins : Begun size w rows keys store page (b .start)
+      giving-begins = record {
+        at-is = h .at-is;
+        leaves-are = h .leaves-are;
+        place-is = h .place-is;
         count-is = count-all;
         bytes-is = bytes-all;
-        separator-is = f ∙ o;
-        long = l;
+        separator-is = h .separator-is;
+        long = h .long;
       }
 
-      module _ (t : Target) (q : targetIn t ≡ targetOf size (34 * u .count + u .bytes)) where
-        target-is : targetOf size (body all) ≡ targetIn t
-        target-is = sym (q ∙ ap (targetOf size) body-all)
+      target-is : targetOf size (body all) ≡ targetIn (b .target)
+      target-is = sym (h .target-is ∙ ap (targetOf size) body-all)
 
-        pub a-target-is-fixed : t .cut ≡ true → targetOf size (body all) ≡ some (t .body)
-        a-target-is-fixed h = target-is ∙ rw h
+      pub a-target-is-fixed : b .target .cut ≡ true → targetOf size (body all) ≡ some (b .target .body)
+      a-target-is-fixed c = target-is ∙ rw c
 
-        pub nothing-is-cut : t .cut ≡ false → (own first : List ℕ) → own ≡ separatorOf w → first ≡ own → length first ≡ 32
-            → Along size w rows keys store page area tickets (cutAll size all) (record { at = record { entry = 0; skip = 0 }; left = u; leaves = 0; place = 0; separator = first }) area tickets
-        unfolding cutAll
-        nothing-is-cut h own first o f l =
-            let d : targetOf size (body all) ≡ none = target-is ∙ rw h in
-            let k : cutAll size all ≡ nothingCut all = rw (d, cutAll) in
-            rw k (no-leaf-is-given-yet size w rows keys store page area tickets g _ (giving-begins own first o f l))
+      pub nothing-is-cut : b .target .cut ≡ false → Along size w rows keys store page area tickets (cutAll size all) (b .start) area tickets
+      unfolding cutAll
+      nothing-is-cut c =
+          let d : targetOf size (body all) ≡ none = target-is ∙ rw c in
+          let k : cutAll size all ≡ nothingCut all = rw (d, cutAll) in
+          rw k (no-leaf-is-given-yet size w rows keys store page area tickets g _ giving-begins)
 
   -- ---- the end
 

@@ -1,9 +1,9 @@
 -- One leaf: its page in the area, its ticket, and what follows it. Assumes nothing.
-use mathlib.Core.Path.{_≡_, refl, sym, ap, ap₂, _∙_}
+use mathlib.Core.Path.{_≡_, refl, sym, ap, ap₂, subst, _∙_}
 use mathlib.Core.Bool.{Bool, true, false, not, _&&_, cond}
 use mathlib.Core.Option.{Option, some}
 use mathlib.Core.List.{List, [], _∷_, _++_, append-assoc}
-use Prim.Native.Nat.{ℕ, _+_, _-_, _*_, _/_, _≤_, _<_}
+use Prim.Native.Nat.{ℕ, _+_, _-_, _*_, _/_, _^_, _≤_, _<_}
 use native.Mathlib.Omega.{arith}
 use native.Mathlib.Decide.{decLt}
 use native.Mathlib.Nat.{mul-le-mul-left}
@@ -33,7 +33,7 @@ use Rattle.leaf_cut.specs.declared.Cursor.{Cursor}
 use Rattle.leaf_write.specs.Filling.{LeafFits, KeyThere, keyFrom}
 use Rattle.leaf_write.proofs.Keys.{different-keys-are-separated, a-cursor-has-its-key, first, the-first-key-is-that-of-the-first-record, the-last-key-of-a-leaf}
 use Rattle.leaf_give.specs.declared.Progress.{Progress}
-use Rattle.leaf_give.specs.Steps.{TicketGiven, before, taken, behind, LeafThere, LeafGiven}
+use Rattle.leaf_give.specs.Steps.{moreThan, progressOf, TicketAsked, TicketGiven, before, taken, behind, LeafThere, LeafGiven}
 use Rattle.leaf_give.proofs.Separating.{a-lower-key-is-another, the-next-key-is-above-a-leaf, the-cutoff-of-a-leaf, the-separator-behind-a-leaf}
 
 -- ---- the page
@@ -69,13 +69,12 @@ between-long a b = go (eqKey a b) refl
     go false e = rw e (separator-has-32-bytes a b)
 
 module _ (more : Bool) (tickets : List ℕ) (place : ℕ) (own : List ℕ) (cutoff : List ℕ) (cut : Bool) (tickets′ : List ℕ) (after : ℕ) where
-  pub a-ticket-before-more : (rows keys : List (List ℕ)) (page : List ℕ) (s : Span) (at : Cursor) (built : List ℕ) (last : ℕ) (first next : List ℕ)
-      → more ≡ true → length own ≡ 32 → first ≡ keyFrom s rows keys page at → next ≡ separateLeaves (keyAt built last) first zeroKey
+  pub a-ticket-before-more : (built : List ℕ) (last : ℕ) (first next : List ℕ)
+      → more ≡ true → length own ≡ 32 → next ≡ separateLeaves (keyAt built last) first zeroKey
       → tickets′ ≡ put tickets place (packedWith own (keyIf true next)) → after ≡ place + length (packedWith own (keyIf true next))
-      → TicketGiven more (separateLeaves (keyAt built last) (keyFrom s rows keys page at) zeroKey) (keyIf cut cutoff) tickets place own after next tickets′
-  a-ticket-before-more rows keys page s at built last first next m l f n t a =
-      let e : next ≡ separateLeaves (keyAt built last) (keyFrom s rows keys page at) zeroKey = n ∙ ap (λ (k : List ℕ). separateLeaves (keyAt built last) k zeroKey) f in
-      let g : length next ≡ 32 = rw e (between-long (keyAt built last) (keyFrom s rows keys page at)) in
+      → TicketGiven more (separateLeaves (keyAt built last) first zeroKey) (keyIf cut cutoff) tickets place own after next tickets′
+  a-ticket-before-more built last first next m l e t a =
+      let g : length next ≡ 32 = rw e (between-long (keyAt built last) first) in
       rw (← e, m) (record { tickets-are = t; place-is = a; short = omega (arith, length-append own next); separator-is = refl; long = g })
 
   pub a-ticket-before-none : (between : List ℕ) → more ≡ false → length own ≡ 32 → length cutoff ≡ 32
@@ -87,6 +86,15 @@ module _ (more : Bool) (tickets : List ℕ) (place : ℕ) (own : List ℕ) (cuto
       ticket-short : (b : Bool) → length (packedWith own (keyIf b cutoff)) ≤ 65
       ticket-short true = omega (arith, length-append own cutoff)
       ticket-short false = omega arith
+
+-- what would separate the leaf from records behind it counts only where there are some
+pub the-key-behind-matters-with-more : (more : Bool) (last first key : List ℕ) (cutoff : Option (List ℕ)) (tickets : List ℕ) (place : ℕ) (own : List ℕ) (after : ℕ) (next tickets′ : List ℕ)
+    → (more ≡ true → first ≡ key)
+    → TicketGiven more (separateLeaves last first zeroKey) cutoff tickets place own after next tickets′ → TicketGiven more (separateLeaves last key zeroKey) cutoff tickets place own after next tickets′
+the-key-behind-matters-with-more true last first key cutoff tickets place own after next tickets′ e t =
+    subst (λ (z : List ℕ). TicketGiven true (separateLeaves last z zeroKey) cutoff tickets place own after next tickets′) (e refl) t
+the-key-behind-matters-with-more false last first key cutoff tickets place own after next tickets′ e t =
+    record { tickets-are = t .tickets-are; place-is = t .place-is; short = t .short; separator-is = t .separator-is; long = t .long }
 
 pub a-copied-key-is-the-key : (k copy : List ℕ) → length k ≡ 32 → copy ≡ put (replicate 32 0) 0 k → copy ≡ k
 a-copied-key-is-the-key k copy l q = q ∙ put-all (replicate 32 0) k l
@@ -147,9 +155,8 @@ module _ (size : ℕ) (rows keys : List (List ℕ)) (store page : List ℕ) (s :
       let m : p .leaves * 1 ≤ p .leaves * size = mul-le-mul-left (p .leaves) one in
       omega (arith, m, h .page-room)
 
-  pub the-key-behind-is-there : not (eqb (p .left .count - leaf .count) 0) ≡ true → KeyThere rows keys page s at
-  the-key-behind-is-there m =
-      let n : p .left .count - leaf .count ≡ 0 → ⊥ = eqb-false (p .left .count - leaf .count) 0 (not-true (eqb (p .left .count - leaf .count) 0) m) in
+  pub the-key-behind-is-there : (p .left .count - leaf .count ≡ 0 → ⊥) → KeyThere rows keys page s at
+  the-key-behind-is-there n =
       let some : 0 < length b = elim (decLt 0 (length b)) [ yes y ↦ y | no y ↦ absurd (n (omega (arith, the-records-left))) ] in
       a-cursor-has-its-key rows keys store page s (h .kept) at (h .behind-in) some
 
@@ -176,6 +183,17 @@ module _ (size : ℕ) (rows keys : List (List ℕ)) (store page : List ℕ) (s :
         let e : length part ≡ size = ap length part-is ∙ page-long in
         omega (arith, e, h .fits .fits .room, h .fits .fits .sized .least, body-is-pointers-and-values l, many, h .some-record)
 
+    pub a-ticket-can-be-given : area < 2 ^ 64 → TicketAsked p leaf (length (take (p .leaves * size + size - p .leaves * size) (drop (p .leaves * size) built))) tickets
+    a-ticket-can-be-given f = record {
+      fewer = omega (arith, h .fits .there, h .count-is);
+      less = few-bytes-are-taken;
+      some-record = h .some-record;
+      last = the-last-key-is-there;
+      room = h .ticket-room;
+      few = omega (arith, f, few-leaves-are-given);
+      long = h .long;
+    }
+
     abbrev between : List ℕ
     between = separateLeaves (keyAt (take (p .leaves * size + size - p .leaves * size) (drop (p .leaves * size) built)) (leaf .count - 1)) (keyFrom s rows keys page at) zeroKey
 
@@ -190,15 +208,11 @@ module _ (size : ℕ) (rows keys : List (List ℕ)) (store page : List ℕ) (s :
         ap₂ (λ (x y : List ℕ). separateLeaves x y zeroKey) k n
         ∙ different-keys-are-separated (lastKey l) (r .key) (a-lower-key-is-another (lastKey l) (r .key) (the-next-key-is-above-a-leaf l r rs has-record up))
 
-    pub a-leaf-is-given : (cutoff : Option (List ℕ)) (lent : List ℕ) (place : ℕ) (separator lent′ : List ℕ)
-        → TicketGiven (not (eqb (p .left .count - leaf .count) 0))
-        (separateLeaves (keyAt (take (p .leaves * size + size - p .leaves * size) (drop (p .leaves * size) built)) (leaf .count - 1)) (keyFrom s rows keys page at) zeroKey)
-        cutoff lent (p .place) (p .separator) place separator lent′
-        → LeafGiven size rows keys store page s p leaf at cutoff held lent
-        (record { at = at; left = record { count = p .left .count - leaf .count; bytes = p .left .bytes - leaf .bytes }; leaves = p .leaves + 1; place = place; separator = separator })
-        built lent′
-    a-leaf-is-given cutoff lent place separator lent′ t =
-        let o : cond (not (eqb (p .left .count - leaf .count) 0)) (some between) cutoff ≡ leafCutoff l b cutoff = the-cutoff-of-a-leaf l between cutoff b (p .left .count - leaf .count) the-records-left separated in
+    given : (cutoff : Option (List ℕ)) (lent : List ℕ) (place : ℕ) (separator lent′ : List ℕ)
+        → TicketGiven (moreThan p leaf) between cutoff lent (p .place) (p .separator) place separator lent′
+        → LeafGiven size rows keys store page s p leaf at cutoff held lent (progressOf p leaf at place separator) built lent′
+    given cutoff lent place separator lent′ t =
+        let o : cond (moreThan p leaf) (some between) cutoff ≡ leafCutoff l b cutoff = the-cutoff-of-a-leaf l between cutoff b (p .left .count - leaf .count) the-records-left separated in
         record {
           area-is = q;
           tickets-are = t .tickets-are ∙ ap (λ (x : Option (List ℕ)). put lent (p .place) (packedWith (p .separator) x)) o;
@@ -211,6 +225,18 @@ module _ (size : ℕ) (rows keys : List (List ℕ)) (store page : List ℕ) (s :
           count-is = the-records-left;
           bytes-is = the-bytes-left;
         }
+
+    pub a-leaf-is-given : (cutoff : Option (List ℕ)) (lent : List ℕ) (first : List ℕ) (r : Progress) (lent′ : List ℕ) → ((p .left .count - leaf .count ≡ 0 → ⊥) → first ≡ keyFrom s rows keys page at)
+        → r ≡ progressOf p leaf at (r .place) (r .separator)
+        → TicketGiven (moreThan p leaf) (separateLeaves (keyAt (take (p .leaves * size + size - p .leaves * size) (drop (p .leaves * size) built)) (leaf .count - 1)) first zeroKey)
+        cutoff lent (p .place) (p .separator) (r .place) (r .separator) lent′
+        → LeafGiven size rows keys store page s p leaf at cutoff held lent r built lent′
+    a-leaf-is-given cutoff lent first r lent′ k e t =
+        subst (λ (z : Progress). LeafGiven size rows keys store page s p leaf at cutoff held lent z built lent′) (sym e)
+        (given cutoff lent (r .place) (r .separator) lent′ (the-key-behind-matters-with-more (moreThan p leaf) _ first (keyFrom s rows keys page at) cutoff lent (p .place) (p .separator) (r .place) (r .separator) lent′ k′ t))
+      where
+        k′ : moreThan p leaf ≡ true → first ≡ keyFrom s rows keys page at
+        k′ m = k (eqb-false (p .left .count - leaf .count) 0 (not-true (eqb (p .left .count - leaf .count) 0) m))
 
 -- ---- what is left
 

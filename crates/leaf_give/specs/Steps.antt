@@ -1,16 +1,18 @@
 -- One leaf given out, and a row of them: what is required, and what is left behind. `page` is the page as the work regards it.
 use mathlib.Core.Path.{_≡_}
-use mathlib.Core.Bool.{Bool, true, cond}
+use mathlib.Core.Bool.{Bool, true, not, cond}
 use mathlib.Core.Option.{Option, some}
 use mathlib.Core.List.{List, _++_, map}
-use Prim.Native.Nat.{ℕ, _+_, _*_, _≤_, _<_}
+use Prim.Native.Nat.{ℕ, _+_, _-_, _*_, _^_, _≤_, _<_}
+use lib.Dec.{eqb}
 use lib.ListN.{length, take, drop}
 use Rattle.leaf_node.specs.Record.{Record, total}
+use Rattle.leaf_node.specs.Page.{pointer, valuesSize}
 use Rattle.leaf_node.specs.Build.{put, build}
 use Rattle.leaf_node.specs.Ticket.{packedWith}
 use Rattle.leaf_node.specs.Fits.{All, Fits}
 use Rattle.leaf_model.specs.Basics.{joined}
-use Rattle.leaf_model.specs.Cut.{Cut}
+use Rattle.leaf_model.specs.Cut.{Cut, targetOf}
 use Rattle.leaf_model.specs.Work.{leafCutoff, nextSeparator, isRising, separatorAfter, leavesBy}
 use Rattle.leaf_work.specs.declared.Work.{Work}
 use Rattle.leaf_work.specs.Lent.{cutoffOf, separatorOf}
@@ -18,13 +20,34 @@ use Rattle.leaf_work.specs.Digest.{ticketsOf, overwrite}
 use Rattle.leaf_cut.specs.declared.Gauge.{Gauge}
 use Rattle.leaf_cut.specs.declared.Span.{Span}
 use Rattle.leaf_cut.specs.declared.Cursor.{Cursor}
+use Rattle.leaf_cut.specs.Sizes.{targetIn}
 use Rattle.leaf_cut.specs.Records.{spanOf, firstCursor, recordsFrom}
 use Rattle.leaf_cut.specs.Steps.{CursorIn, Kept}
 use Rattle.leaf_write.specs.Filling.{LeafFits}
 use Rattle.leaf_give.specs.declared.Progress.{Progress}
+use Rattle.leaf_give.specs.declared.Beginning.{Beginning}
 use Rattle.leaf_give.specs.Giving.{pending}
 
 -- ---- a ticket
+
+-- whether records are left behind a leaf
+abbrev pub moreThan : Progress → Gauge → Bool
+moreThan p leaf = not (eqb (p .left .count - leaf .count) 0)
+
+-- how far a digest has come with a leaf, up to the cursor `at`
+abbrev pub progressOf : Progress → Gauge → Cursor → ℕ → List ℕ → Progress
+progressOf p leaf at place separator =
+    record { at = at; left = record { count = p .left .count - leaf .count; bytes = p .left .bytes - leaf .bytes }; leaves = p .leaves + 1; place = place; separator = separator }
+
+-- a leaf's page has `built` bytes, and there are `tickets` bytes for tickets
+pub record TicketAsked (p : Progress) (leaf : Gauge) (built tickets : ℕ) : Type 0 where
+  pub fewer : leaf .count ≤ p .left .count
+  pub less : leaf .bytes ≤ p .left .bytes
+  pub some-record : 0 < leaf .count
+  pub last : pointer (leaf .count - 1 + 1) ≤ built
+  pub room : p .place + 65 ≤ tickets
+  pub few : p .leaves + 1 < 2 ^ 64
+  pub long : length (p .separator) ≡ 32
 
 -- A leaf with this separator got its ticket at byte `place`. With `more` there are records behind it, and `between` separates them from the leaf.
 pub record TicketGiven (more : Bool) (between : List ℕ) (cutoff : Option (List ℕ)) (tickets : List ℕ) (place : ℕ) (separator : List ℕ) (next : ℕ) (separator′ tickets′ : List ℕ) : Type 0 where
@@ -93,7 +116,8 @@ module _ (size : ℕ) (w : Work) (rows keys : List (List ℕ)) (store page area 
     pub whole : joined (c .leaves) ++ c .left ≡ pending size w rows keys store page
     pub fits : All (Fits size) (c .leaves)
 
--- where giving begins
+-- ---- where giving begins
+
 module _ (size : ℕ) (w : Work) (rows keys : List (List ℕ)) (store page : List ℕ) where
   pub record Begun (p : Progress) : Type 0 where
     pub at-is : p .at ≡ firstCursor
@@ -103,3 +127,18 @@ module _ (size : ℕ) (w : Work) (rows keys : List (List ℕ)) (store page : Lis
     pub bytes-is : p .left .bytes ≡ total (pending size w rows keys store page)
     pub separator-is : p .separator ≡ separatorOf w
     pub long : length (p .separator) ≡ 32
+
+-- what the list has
+abbrev pub listedIn : Work → Gauge
+listedIn w = record { count = w .count; bytes = w .bytes }
+
+module _ (size : ℕ) (w : Work) (page : List ℕ) (n : ℕ) where
+  pub record BegunBy (b : Beginning) : Type 0 where
+    pub at-is : b .start .at ≡ firstCursor
+    pub leaves-are : b .start .leaves ≡ 0
+    pub place-is : b .start .place ≡ 0
+    pub count-is : b .start .left .count ≡ w .count + (n - w .low)
+    pub bytes-is : b .start .left .bytes ≡ w .bytes + valuesSize page (w .low) n
+    pub separator-is : b .start .separator ≡ separatorOf w
+    pub long : length (b .start .separator) ≡ 32
+    pub target-is : targetIn (b .target) ≡ targetOf size (34 * b .start .left .count + b .start .left .bytes)

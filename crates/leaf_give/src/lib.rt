@@ -3,6 +3,7 @@
 use leaf_cut::Cursor;
 use leaf_cut::Gauge;
 use leaf_cut::Span;
+use leaf_cut::Target;
 use leaf_cut::consume_and_update_until;
 use leaf_cut::pending_gauge;
 use leaf_cut::target_of;
@@ -28,10 +29,10 @@ ghost use Rattle.leaf_model.specs.Cut.{targetOf, cutAll};
 ghost use Rattle.leaf_model.specs.Work.{zeroKey};
 ghost use Rattle.leaf_work.specs.Tests.{keyIf};
 ghost use Rattle.leaf_cut.specs.Records.{recordsFrom};
-ghost use Rattle.leaf_cut.specs.Steps.{CursorIn, Kept};
+ghost use Rattle.leaf_cut.specs.Steps.{Modest, Rest, CursorIn, Kept};
 ghost use Rattle.leaf_write.specs.Filling.{LeafFits, KeyThere, keyFrom};
 ghost use Rattle.leaf_give.specs.Giving.{pending, Gives, GivenOut};
-ghost use Rattle.leaf_give.specs.Steps.{TicketGiven, LeafThere, LeafGiven, Along, Begun};
+ghost use Rattle.leaf_give.specs.Steps.{moreThan, progressOf, TicketAsked, TicketGiven, LeafThere, LeafGiven, Along, Begun, listedIn, BegunBy};
 
 // How far a digest has come: the cursor behind the leaves given out, the records behind it, how many leaves there are, where the next
 // ticket begins, and the separator of what follows.
@@ -46,7 +47,7 @@ pub struct Progress {
 // ---- one leaf
 
 // A key, copied. Its length is told, which that of a key in a struct is not.
-fn key_of(key: &[u8; 32]) -> [u8; 32]
+pub fn key_of(key: &[u8; 32]) -> [u8; 32]
     ensures { λ r. ⌜ (r ≡ now (key .entry)) × (length r ≡ 32) ⌝ }
 {
     let mut copy = [0u8; 32];
@@ -88,13 +89,10 @@ struct Ticketed {
     separator: [u8; 32],
 }
 
-// The ticket of a leaf at byte `place`, by its page and the index of its last record. With `more` there are records behind it, from the cursor on.
-fn give_ticket(
-    rows: &[[usize; 5]],
-    keys: &[[u8; 32]],
-    page: &[u8],
-    span: Span,
-    at: Cursor,
+// The ticket of a leaf at byte `place`, by its page and the index of its last record. With `more` there are records behind it, and `first` is the key of
+// the first of them.
+fn ticket_of(
+    first: &[u8; 32],
     more: bool,
     built: &[u8],
     last: usize,
@@ -104,12 +102,11 @@ fn give_ticket(
     place: usize,
     separator: &[u8; 32],
 ) -> Ticketed
-    requires { ⌜ (more ≡ true → KeyThere (now rows) (now keys) (now page) span at) × (pointer (last + 1) ≤ length (now built)) × (place + 65 ≤ length (now tickets)) × (length (now separator) ≡ 32) × (length (now cutoff) ≡ 32) ⌝ }
-    ensures { λ r. ⌜ TicketGiven more (separateLeaves (keyAt (now (built .entry)) last) (keyFrom span (now (rows .entry)) (now (keys .entry)) (now (page .entry)) at) zeroKey) (keyIf cut (now (cutoff .entry))) (now (tickets .entry)) place (now (separator .entry)) (r .place) (r .separator) (now (tickets .exit)) ⌝ }
+    requires { ⌜ (pointer (last + 1) ≤ length (now built)) × (place + 65 ≤ length (now tickets)) × (length (now separator) ≡ 32) × (length (now cutoff) ≡ 32) ⌝ }
+    ensures { λ r. ⌜ TicketGiven more (separateLeaves (keyAt (now (built .entry)) last) (now (first .entry)) zeroKey) (keyIf cut (now (cutoff .entry))) (now (tickets .entry)) place (now (separator .entry)) (r .place) (r .separator) (now (tickets .exit)) ⌝ }
 {
     if more {
-        let first = op_first_key(rows, keys, page, span, at);
-        let next = next_separator(built, last, &first);
+        let next = next_separator(built, last, first);
         return Ticketed {
             place: put_ticket(tickets, place, separator, true, &next),
             separator: next,
@@ -119,6 +116,65 @@ fn give_ticket(
         place: put_ticket(tickets, place, separator, cut, cutoff),
         separator: *separator,
     }
+}
+
+// The ticket of a leaf, by its page, and how far the digest has come with it, up to the cursor `at`. Where records are left behind it, `first` is the key
+// of the first of them.
+pub fn give_ticket(
+    first: &[u8; 32],
+    p: Progress,
+    leaf: Gauge,
+    at: Cursor,
+    cut: bool,
+    cutoff: &[u8; 32],
+    built: &[u8],
+    tickets: &mut [u8],
+) -> Progress
+    requires { ⌜ (TicketAsked p leaf (length (now built)) (length (now tickets))) × (length (now cutoff) ≡ 32) ⌝ }
+    ensures { λ r. ⌜ (r ≡ progressOf p leaf at (r .place) (r .separator)) × (TicketGiven (moreThan p leaf) (separateLeaves (keyAt (now (built .entry)) (leaf .count - 1)) (now (first .entry)) zeroKey) (keyIf cut (now (cutoff .entry))) (now (tickets .entry)) (p .place) (p .separator) (r .place) (r .separator) (now (tickets .exit))) ⌝ }
+{
+    let left = Gauge {
+        count: p.left.count - leaf.count,
+        bytes: p.left.bytes - leaf.bytes,
+    };
+    let separator = p.separator;
+    let t = ticket_of(
+        first,
+        left.count != 0,
+        built,
+        leaf.count - 1,
+        cut,
+        cutoff,
+        tickets,
+        p.place,
+        &separator,
+    );
+    let next = t.separator;
+    Progress {
+        at: at,
+        left: left,
+        leaves: p.leaves + 1,
+        place: t.place,
+        separator: next,
+    }
+}
+
+// The key of the first of `left` records from a cursor on; zeros where none is left.
+fn key_behind(
+    rows: &[[usize; 5]],
+    keys: &[[u8; 32]],
+    page: &[u8],
+    span: Span,
+    at: Cursor,
+    left: usize,
+) -> [u8; 32]
+    requires { ⌜ ((left ≡ 0 → ⊥) → KeyThere (now rows) (now keys) (now page) span at) ⌝ }
+    ensures { λ r. ⌜ ((left ≡ 0 → ⊥) → r ≡ keyFrom span (now (rows .entry)) (now (keys .entry)) (now (page .entry)) at) ⌝ }
+{
+    if left != 0 {
+        return op_first_key(rows, keys, page, span, at);
+    }
+    [0u8; 32]
 }
 
 // Gives out a leaf, behind which stands the cursor `at`: its page and its ticket.
@@ -142,34 +198,17 @@ fn give_leaf(
 {
     let from = p.leaves * size;
     give_page(rows, keys, store, page, span, p.at, leaf, area, from, size);
-    let left = Gauge {
-        count: p.left.count - leaf.count,
-        bytes: p.left.bytes - leaf.bytes,
-    };
-    let separator = p.separator;
-    let t = give_ticket(
-        rows,
-        keys,
-        page,
-        span,
+    let first = key_behind(rows, keys, page, span, at, p.left.count - leaf.count);
+    give_ticket(
+        &first,
+        p,
+        leaf,
         at,
-        left.count != 0,
-        &area[from..from + size],
-        leaf.count - 1,
         cut,
         cutoff,
+        &area[from..from + size],
         tickets,
-        p.place,
-        &separator,
-    );
-    let next = t.separator;
-    Progress {
-        at: at,
-        left: left,
-        leaves: p.leaves + 1,
-        place: t.place,
-        separator: next,
-    }
+    )
 }
 
 // ---- leaf after leaf
@@ -226,6 +265,37 @@ fn try_build_leaves(
     p
 }
 
+// Where giving leaves begins: all that is pending is left. With `target.cut` leaves are cut off it.
+pub struct Beginning {
+    pub start: Progress,
+    pub target: Target,
+}
+
+// Where giving leaves begins, steps 1 and 2. The base has n records.
+pub fn begin_leaves(work: Work, page: &[u8], n: usize, size: usize) -> Beginning
+    requires { ⌜ (PageSize size) × (Rest (now page) n (work .low)) × (Modest (listedIn work)) ⌝ }
+    ensures { λ r. ⌜ BegunBy size work (now (page .entry)) n r ⌝ }
+{
+    let listed = Gauge {
+        count: work.count,
+        bytes: work.bytes,
+    };
+    let all = pending_gauge(listed, page, n, work.low);
+    let target = target_of(34 * all.count + all.bytes, size);
+    let own = separator(work);
+    let first = key_of(&own);
+    Beginning {
+        start: Progress {
+            at: Cursor { entry: 0, skip: 0 },
+            left: all,
+            leaves: 0,
+            place: 0,
+            separator: first,
+        },
+        target: target,
+    }
+}
+
 // The leaves that are cut off what is pending, steps 1 to 3.
 fn cut_leaves(
     work: Work,
@@ -241,23 +311,9 @@ fn cut_leaves(
     requires { ⌜ (Gives size work (now rows) (now keys) (now store) (now page) (now area) (now tickets)) × (n ≡ count (now page)) ⌝ }
     ensures { λ r. ⌜ Along size work (now (rows .entry)) (now (keys .entry)) (now (store .entry)) (now (page .entry)) (now (area .entry)) (now (tickets .entry)) (cutAll size (pending size work (now (rows .entry)) (now (keys .entry)) (now (store .entry)) (now (page .entry)))) r (now (area .exit)) (now (tickets .exit)) ⌝ }
 {
-    let listed = Gauge {
-        count: work.count,
-        bytes: work.bytes,
-    };
-    let all = pending_gauge(listed, page, n, work.low);
-    let target = target_of(34 * all.count + all.bytes, size);
-    let own = separator(work);
-    let first = key_of(&own);
-    let start = Progress {
-        at: Cursor { entry: 0, skip: 0 },
-        left: all,
-        leaves: 0,
-        place: 0,
-        separator: first,
-    };
-    if target.cut {
-        let body = target.body;
+    let begun = begin_leaves(work, page, n, size);
+    if begun.target.cut {
+        let body = begun.target.body;
         return try_build_leaves(
             work,
             rows,
@@ -265,18 +321,18 @@ fn cut_leaves(
             store,
             page,
             n,
-            start,
+            begun.start,
             body,
             area,
             tickets,
             size,
         );
     }
-    start
+    begun.start
 }
 
 // Whether what is left waits for a merge: there is a cutoff, and it has too small a body for a leaf.
-fn waits(cut: bool, left: Gauge, size: usize) -> bool
+pub fn waits(cut: bool, left: Gauge, size: usize) -> bool
     requires { ⌜ (PageSize size) × (left .count ≤ 98304) × (left .bytes ≤ 98304) ⌝ }
     ensures { λ r. ⌜ r ≡ (cut && ltb (34 * left .count + left .bytes) (mergeBelow size)) ⌝ }
 {

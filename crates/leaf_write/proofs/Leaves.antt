@@ -69,7 +69,7 @@ module _ (d : List ℕ) (j at : ℕ) (rs ss : List Record) (f : Filling (length 
   both-go-in : pushed d j at (rs ++ ss) ≡ pushed (pushed d j at rs) (j + length rs) (at + total rs) ss
   both-go-in = sym (pushes-join d j at rs ss rs-keyed (all-right rs ss (f .keys)) (omega (arith, many, f .room)) (omega (arith, sums, f .fits)))
 
-pushed-none : (d : List ℕ) (j at : ℕ) → pushed d j at [] ≡ d
+pub pushed-none : (d : List ℕ) (j at : ℕ) → pushed d j at [] ≡ d
 unfolding pushed pointers values
 pushed-none d j at = rw (put-none d (34 * j + 2), put-none d at)
 

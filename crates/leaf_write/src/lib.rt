@@ -26,9 +26,9 @@ ghost use Rattle.leaf_write.specs.Filling.{clipped, insertRecord, partFr
 // ---- the page of a leaf
 
 // How many records were pushed, and where the value of the next one begins.
-struct Pushed {
-    count: usize,
-    at: usize,
+pub struct Pushed {
+    pub count: usize,
+    pub at: usize,
 }
 
 // The end of records `from` up to `to`, of which no more than `left` are wanted.
@@ -43,7 +43,7 @@ fn clip(from: usize, to: usize, left: usize) -> usize
 }
 
 // Pushes base records `from` up to `to`, no more than `left`, as records from j on, their values from byte `at` on.
-fn push_range(
+pub fn push_range(
     page: &[u8],
     from: usize,
     to: usize,
@@ -81,7 +81,7 @@ fn push_insert(
 }
 
 // Pushes an entry's records behind the first `skip`, no more than `left`.
-fn push_entry(
+pub fn push_entry(
     row: [usize; 5],
     key: &[u8; 32],
     store: &[u8],

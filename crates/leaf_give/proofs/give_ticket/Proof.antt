@@ -1,43 +1,39 @@
 -- `leaf_give::give_ticket` meets its contract.
 -- Assumes nothing.
-use Rattle.leaf_give.proofs.OneLeaf.{a-ticket-before-more, a-ticket-before-none}
+use native.Mathlib.Omega.{arith}
 use borrow.Author.Needs.{needs}
 use Rattle.leaf_give.proofs.give_ticket.Statement.{statement}
 use Rattle.leaf_give.proofs.give_ticket.Tie as tie
 
-op-first-key-requires : tie.Need-op-first-key-requires
-op-first-key-requires c κs = c .before .before .before .before .pre .0 (c .if1 .taken)
+sub-ticket-of : tie.Need-sub-ticket-of
+sub-ticket-of c = search needs
 
-next-separator-requires : tie.Need-next-separator-requires
-next-separator-requires c κs = search needs
+sub-t14 : tie.Need-sub-t14
+sub-t14 c = search needs
 
-put-ticket-requires : tie.Need-put-ticket-requires
-put-ticket-requires c κs = search needs
+sub-ticket-of-2 : tie.Need-sub-ticket-of-2
+sub-ticket-of-2 c = search needs
+
+ticket-of-requires : tie.Need-ticket-of-requires
+ticket-of-requires c κs = search needs
+
+add-t14 : tie.Need-add-t14
+add-t14 c = omega (arith, c .before .before .before .before .before .before .before .before .before .before .before .before .before .before .before .before .pre .0 .few)
 
 same-length : tie.Need-same-length
 same-length c = search needs
 
 returns : tie.Need-returns
-returns c = search (a-ticket-before-more, needs)
-
-put-ticket-requires-2 : tie.Need-put-ticket-requires-2
-put-ticket-requires-2 c κs = search needs
-
-same-length-2 : tie.Need-same-length-2
-same-length-2 c = search needs
-
-returns-2 : tie.Need-returns-2
-returns-2 c = search (a-ticket-before-none, needs)
+returns c = search needs
 
 pub give-ticket-spec : {M : Type 1} → statement M
 give-ticket-spec =
     tie.close
     (tie.spec
-    op-first-key-requires
-    next-separator-requires
-    put-ticket-requires
+    sub-ticket-of
+    sub-t14
+    sub-ticket-of-2
+    ticket-of-requires
+    add-t14
     same-length
-    returns
-    put-ticket-requires-2
-    same-length-2
-    returns-2)
+    returns)

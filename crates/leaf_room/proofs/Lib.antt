@@ -1,1 +1,0 @@
--- Laws on plain values, for the functions' proofs.

@@ -1,2 +1,0 @@
--- What a digest over a list of entries answers and leaves.
-pub mod Digests
