@@ -43,7 +43,10 @@ a-passed-work-is-judged w page at entries o store v e = record { list = o .list;
 
 -- ---- the page
 
-pub the-bytes-that-are-regarded : (w : Work) (page : List ℕ) (m : ℕ) → m ≡ length (regarded w page) → (m ≤ length page) × (take m page ≡ regarded w page)
+pub as-many-bytes-are-regarded : (w : Work) (page base : List ℕ) → base ≡ regarded w page → length base ≡ length (regarded w page)
+as-many-bytes-are-regarded w page base e = ap length e
+
+the-bytes-that-are-regarded : (w : Work) (page : List ℕ) (m : ℕ) → m ≡ length (regarded w page) → (m ≤ length page) × (take m page ≡ regarded w page)
 the-bytes-that-are-regarded w page m e = go (readsBase w) refl
   where
     go : (b : Bool) → readsBase w ≡ b → (m ≤ length page) × (take m page ≡ regarded w page)

@@ -4,7 +4,7 @@ use mathlib.Core.Logic.{inl, inr}
 use mathlib.Core.List.{List, [], _∷_, _++_}
 use Prim.Native.Nat.{ℕ, _+_, _-_, _≤_, _<_}
 use native.Mathlib.Omega.{arith}
-use native.Mathlib.Decide.{decLt, decEq}
+use native.Mathlib.Decide.{decLt}
 use lib.ListN.{length, drop, replicate, length-map}
 use borrow.Author.Tests.{eq-eqb, ne-eqb}
 use Rattle.bit_ops.specs.Steps.{zeros}
@@ -31,13 +31,22 @@ use Rattle.digest.specs.Steps.{replyBy, stepBy, Ready, Made}
 
 -- ---- the reply, by how many records are left
 
-pub nothing-is-left : (w : Work) (p : Progress) → p .left .count ≡ 0 → Finished (p .leaves) ≡ replyBy w p
+nothing-is-left : (w : Work) (p : Progress) → p .left .count ≡ 0 → Finished (p .leaves) ≡ replyBy w p
 unfolding replyBy
 nothing-is-left w p z = rw (eq-eqb (p .left .count) 0 z)
 
-pub something-is-left : (w : Work) (p : Progress) → (p .left .count ≡ 0 → ⊥) → Merge (p .leaves) (w .cutoff) ≡ replyBy w p
+something-is-left : (w : Work) (p : Progress) → (p .left .count ≡ 0 → ⊥) → Merge (p .leaves) (w .cutoff) ≡ replyBy w p
 unfolding replyBy
 something-is-left w p h = rw (ne-eqb (p .left .count) 0 h)
+
+module _ (w : Work) (p : Progress) (next : Work) (e : next ≡ core.digestWorkBy w (p .left) (p .separator)) where
+  pub a-finished-digest-says-so : p .left .count ≡ 0 → _≡_ {A = DigestStep} (record { reply = record { refusal = 0; waiting = 0; leaves = p .leaves; cutoff = zeroKey }; work = next }) (stepBy w p)
+  a-finished-digest-says-so z = rw (e, ← nothing-is-left w p z)
+
+  pub a-waiting-digest-says-so : (p .left .count ≡ 0 → ⊥) → _≡_ {A = DigestStep} (record { reply = record { refusal = 0; waiting = 1; leaves = p .leaves; cutoff = w .cutoff }; work = next }) (stepBy w p)
+  a-waiting-digest-says-so h = rw (e, ← something-is-left w p h)
+
+-- ---- list, store, area and tickets
 
 module _ (size : ℕ) (w : Work) (list : List Entry) (store page area tickets : List ℕ) (n : ℕ) (req : (Ready size w list store page area tickets) × (n ≡ count page)) where
   abbrev rows : List (List ℕ)
@@ -94,12 +103,12 @@ module _ (size : ℕ) (w : Work) (list : List Entry) (store page area tickets : 
         store-is = k .1;
       }
 
-      pub the-outcome-is-made : (r : DigestStep) → r ≡ stepBy w p → Made made r list′ store′ area′ tickets′
-      the-outcome-is-made r e = rw (e, ← same) (elim (decEq (p .left .count) 0) [ yes z ↦ all-given z | no h ↦ some-kept h ])
-        where
-          abbrev o : Digested
-          o = digestDone size w (listOf rows keys) store area tickets (planned size w rows keys store page)
+      abbrev o : Digested
+      o = digestDone size w (listOf rows keys) store area tickets (planned size w rows keys store page)
 
+      pub the-outcome-is-made : (r : DigestStep) → r ≡ stepBy w p → Made made r list′ store′ area′ tickets′
+      the-outcome-is-made r e = rw (e, ← same) (elim (decLt 0 (p .left .count)) [ yes h ↦ some-kept (λ z. absurd (omega (arith, h, z))) | no h ↦ all-given (omega (arith, h)) ])
+        where
           all-given : p .left .count ≡ 0 → Made o (stepBy w p) list′ store′ area′ tickets′
           all-given z =
               let m = nothing-left-is-done size w rows keys store page area tickets d p area′ tickets′ g (rowsOf list′) (keysOf list′) store′ kept (core.digestWorkBy w (p .left) (p .separator)) refl z in

@@ -130,19 +130,19 @@ fn regarded_bytes(work: Work, page: &[u8]) -> usize
     base.len()
 }
 
-// A digest that earns no refusal.
+// A digest that earns no refusal. The work regards `base` bytes of the page.
 fn digest_accepted(
     work: Work,
     list: &mut [Entry],
     store: &mut [u8],
     page: &[u8],
+    base: usize,
     area: &mut [u8],
     tickets: &mut [u8],
 ) -> DigestStep
-    requires { ⌜ Accepted work (now list) (now store) (now page) (now area) (now tickets) ⌝ }
+    requires { ⌜ (Accepted work (now list) (now store) (now page) (now area) (now tickets)) × (base ≡ length (regarded work (now page))) ⌝ }
     ensures { λ r. ⌜ DigestSays work (now (list .entry)) (now (store .entry)) (now (page .entry)) (now (area .entry)) (now (tickets .entry)) (r .reply) (r .work) (now (list .exit)) (now (store .exit)) (now (area .exit)) (now (tickets .exit)) ⌝ }
 {
-    let base = regarded_bytes(work, page);
     let n = records_in(&page[..base], PAGE_SIZE);
     digest_ready(
         work,
@@ -174,7 +174,8 @@ pub fn digest(
         let step = refused_digest(work, number);
         step
     } else {
-        let step = digest_accepted(work, list, store, page, area, tickets);
+        let base = regarded_bytes(work, page);
+        let step = digest_accepted(work, list, store, page, base, area, tickets);
         step
     }
 }
