@@ -1,4 +1,3 @@
 -- Laws on plain values, for the functions' proofs.
-pub mod OneLeaf
 pub mod LeafByLeaf
 pub mod Finishing

@@ -13,26 +13,18 @@ use Rattle.leaf_work.specs.declared.Entry.{Entry}
 use Rattle.leaf_work.specs.declared.Work.{Work}
 use Rattle.leaf_work.specs.Tests.{isSet}
 use Rattle.leaf_work.specs.Flat.{rowsOf, keysOf}
-use Rattle.leaf_cut.specs.declared.Gauge.{Gauge}
 use Rattle.leaf_cut.specs.declared.Cursor.{Cursor}
 use Rattle.leaf_cut.specs.declared.Span.{Span}
 use Rattle.leaf_cut.specs.declared.Taken.{Taken}
 use Rattle.leaf_give.specs.declared.Progress.{Progress}
 use Rattle.leaf_give.specs.Giving.{pending, Gives}
 use Rattle.leaf_give.specs.Steps.{Begun}
-use Rattle.digest_leaves.specs.declared.Giving.{Giving}
 
 abbrev pub spanBy : Work → ℕ → Span
 spanBy w n = record { used = w .used; low = w .low; n = n }
 
 abbrev pub endBy : Work → ℕ → Cursor
 endBy w n = record { entry = w .used; skip = n - w .low }
-
-abbrev pub givingOf : Progress → Taken → Giving
-givingOf p t = record { p = p; t = t }
-
-abbrev pub leafOf : Giving → Gauge
-leafOf g = record { count = g .t .end .count; bytes = g .t .end .bytes }
 
 unfoldable pub whileCut : Taken → ℕ → ℕ
 whileCut t end = cond (t .end .cut) end 0

@@ -1,41 +1,26 @@
 // The leaves of a digest, given out over the list: pages into the area, tickets behind one another.
 // Ported from nomt/src/beatree/ops/update/leaf_updater.rs of thrumdev/nomt: `try_build_leaves` and the first half of `digest`.
-use digest_leaf::build_leaf;
+use digest_give::give_leaf;
 use digest_leaf::consume_and_update_until;
-use digest_leaf::op_first_key;
 use leaf_cut::Cursor;
 use leaf_cut::Gauge;
 use leaf_cut::Span;
 use leaf_cut::Taken;
-use leaf_entries::read;
 use leaf_give::Beginning;
 use leaf_give::Progress;
 use leaf_give::begin_leaves;
-use leaf_give::give_ticket;
-use leaf_give::key_of;
 use leaf_give::waits;
 use leaf_work::Entry;
 use leaf_work::Work;
 ghost use mathlib.Core.Path.{_≡_};
-ghost use Prim.Native.Nat.{_-_, _≤_, _<_};
-ghost use lib.ListN.{length};
-ghost use Rattle.bit_ops.specs.Separate.{separateLeaves};
+ghost use Prim.Native.Nat.{_-_, _≤_};
 ghost use Rattle.leaf_node.specs.Limits.{PageSize};
-ghost use Rattle.leaf_node.specs.Page.{count, keyAt};
-ghost use Rattle.leaf_model.specs.Work.{zeroKey};
-ghost use Rattle.leaf_work.specs.Lent.{cutoffOf};
+ghost use Rattle.leaf_node.specs.Page.{count};
 ghost use Rattle.leaf_work.specs.Flat.{rowsOf, keysOf};
-ghost use Rattle.leaf_cut.specs.Steps.{Leafed};
 ghost use Rattle.leaf_give.specs.Giving.{Gives, GivenOut};
-ghost use Rattle.leaf_give.specs.Steps.{moreThan, progressOf, TicketAsked, TicketGiven, LeafThere, LeafGiven, Along};
-ghost use Rattle.digest_leaf.specs.Keys.{keyBehind, KeyAsked};
-ghost use Rattle.digest_leaves.specs.Leaves.{spanBy, endBy, givingOf, leafOf, whileCut, isLast, cutOn, CutAsked};
-
-// How far a digest has come, and the leaf that was sought behind it.
-pub struct Giving {
-    pub p: Progress,
-    pub t: Taken,
-}
+ghost use Rattle.leaf_give.specs.Steps.{Along};
+ghost use Rattle.digest_leaf.specs.Consuming.{gaugeOf};
+ghost use Rattle.digest_leaves.specs.Leaves.{spanBy, endBy, whileCut, isLast, cutOn, CutAsked};
 
 // ---- by value
 
@@ -68,30 +53,15 @@ fn limit_of(size: usize) -> usize
     size - 2
 }
 
-fn giving_of(p: Progress, t: Taken) -> Giving
-    ensures { λ r. ⌜ r ≡ givingOf p t ⌝ }
+// A leaf that was cut.
+fn leaf_of(taken: Taken) -> Gauge
+    ensures { λ r. ⌜ r ≡ gaugeOf (taken .end) ⌝ }
 {
-    Giving { p: p, t: t }
-}
-
-// The leaf that was sought.
-fn leaf_of(g: Giving) -> Gauge
-    ensures { λ r. ⌜ r ≡ leafOf g ⌝ }
-{
-    let t = g.t;
-    let end = t.end;
+    let ended = taken.end;
     Gauge {
-        count: end.count,
-        bytes: end.bytes,
+        count: ended.count,
+        bytes: ended.bytes,
     }
-}
-
-// The cursor behind it.
-fn behind_of(g: Giving) -> Cursor
-    ensures { λ r. ⌜ r ≡ g .t .at ⌝ }
-{
-    let t = g.t;
-    t.at
 }
 
 // How far the loop over the leaves goes: up to `end`, or nowhere once no leaf was cut.
@@ -130,99 +100,6 @@ fn is_last(work: Work, p: Progress, size: usize) -> bool
     (left.count != 0) & !waits(work.cut != 0, left, size)
 }
 
-// ---- one leaf
-
-// The ticket of a leaf, by its page and the entry behind it, and how far the digest has come with it.
-fn ticket_leaf(
-    entry: Entry,
-    page: &[u8],
-    span: Span,
-    p: Progress,
-    leaf: Gauge,
-    at: Cursor,
-    work: Work,
-    built: &[u8],
-    tickets: &mut [u8],
-) -> Progress
-    requires { ⌜ (TicketAsked p leaf (length (now built)) (length (now tickets))) × (KeyAsked (now page) span entry at (p .left .count - leaf .count)) ⌝ }
-    ensures { λ r. ⌜ (r ≡ progressOf p leaf at (r .place) (r .separator)) × (TicketGiven (moreThan p leaf) (separateLeaves (keyAt (now (built .entry)) (leaf .count - 1)) (keyBehind span entry (now (page .entry)) at (p .left .count - leaf .count)) zeroKey) (cutoffOf work) (now (tickets .entry)) (p .place) (p .separator) (r .place) (r .separator) (now (tickets .exit))) ⌝ }
-{
-    let given = work.cutoff;
-    let cutoff = key_of(&given);
-    let first = op_first_key(entry, page, span, at, p.left.count - leaf.count);
-    give_ticket(&first, p, leaf, at, work.cut != 0, &cutoff, built, tickets)
-}
-
-// Gives out a leaf, behind which stands the cursor `at`: its page and its ticket.
-fn give_leaf(
-    list: &[Entry],
-    store: &[u8],
-    page: &[u8],
-    span: Span,
-    p: Progress,
-    leaf: Gauge,
-    at: Cursor,
-    work: Work,
-    area: &mut [u8],
-    tickets: &mut [u8],
-    size: usize,
-) -> Progress
-    requires { ⌜ LeafThere size (rowsOf (now list)) (keysOf (now list)) (now store) (now page) span p leaf at (length (now area)) (length (now tickets)) ⌝ }
-    ensures { λ r. ⌜ LeafGiven size (rowsOf (now (list .entry))) (keysOf (now (list .entry))) (now (store .entry)) (now (page .entry)) span p leaf at (cutoffOf work) (now (area .entry)) (now (tickets .entry)) r (now (area .exit)) (now (tickets .exit)) ⌝ }
-{
-    let from = p.leaves * size;
-    let to = from + size;
-    build_leaf(list, store, page, span, p.at, leaf, &mut area[from..to]);
-    let entry = read(list, at.entry);
-    ticket_leaf(
-        entry,
-        page,
-        span,
-        p,
-        leaf,
-        at,
-        work,
-        &area[from..to],
-        tickets,
-    )
-}
-
-// Gives out the leaf that was sought, and seeks the next one.
-fn give_next(
-    list: &[Entry],
-    store: &[u8],
-    page: &[u8],
-    span: Span,
-    g: Giving,
-    work: Work,
-    target: usize,
-    limit: usize,
-    area: &mut [u8],
-    tickets: &mut [u8],
-    size: usize,
-) -> Giving
-    requires { ⌜ (LeafThere size (rowsOf (now list)) (keysOf (now list)) (now store) (now page) span (g .p) (leafOf g) (g .t .at) (length (now area)) (length (now tickets))) × (0 < target) × (target ≤ limit) × (limit ≤ 32767) ⌝ }
-    ensures { λ r. ⌜ (LeafGiven size (rowsOf (now (list .entry))) (keysOf (now (list .entry))) (now (store .entry)) (now (page .entry)) span (g .p) (leafOf g) (g .t .at) (cutoffOf work) (now (area .entry)) (now (tickets .entry)) (r .p) (now (area .exit)) (now (tickets .exit))) × (Leafed limit target (rowsOf (now (list .entry))) (now (page .entry)) span (r .p .at) (r .t)) ⌝ }
-{
-    let leaf = leaf_of(g);
-    let at = behind_of(g);
-    let p = give_leaf(
-        list,
-        store,
-        page,
-        span,
-        g.p,
-        leaf,
-        at,
-        work,
-        area,
-        tickets,
-        size,
-    );
-    let t = consume_and_update_until(list, page, span, p.at, target, limit);
-    giving_of(p, t)
-}
-
 // ---- leaf after leaf
 
 // Leaves with the target's body off all that is pending, as long as there are any. Steps 3 and 5. Each has a page, so that there are no more than the area
@@ -245,29 +122,31 @@ fn try_build_leaves(
     let span = span_by(work, n);
     let limit = limit_of(size);
     let first = consume_and_update_until(list, page, span, start.at, target, limit);
-    let begun = giving_of(start, first);
     let most = while_cut(first, area.len());
-    let mut g = begun;
+    let mut p = start;
+    let mut t = first;
     let mut end = most;
     let mut i = 0;
     while i < end {
-        g = give_next(
+        let leaf = leaf_of(t);
+        p = give_leaf(
             list,
             store,
             page,
             span,
-            g,
+            p,
+            leaf,
+            t.at,
             work,
-            target,
-            limit,
             area,
             tickets,
             size,
         );
-        end = while_cut(g.t, end);
+        t = consume_and_update_until(list, page, span, p.at, target, limit);
+        end = while_cut(t, end);
         i += 1;
     }
-    g.p
+    p
 }
 
 // The leaves that are cut off what is pending, steps 1 to 3.
@@ -309,11 +188,11 @@ pub fn give_leaves(
     requires { ⌜ (Gives size work (rowsOf (now list)) (keysOf (now list)) (now store) (now page) (now area) (now tickets)) × (n ≡ count (now page)) ⌝ }
     ensures { λ r. ⌜ GivenOut size work (rowsOf (now (list .entry))) (keysOf (now (list .entry))) (now (store .entry)) (now (page .entry)) (now (area .entry)) (now (tickets .entry)) r (now (area .exit)) (now (tickets .exit)) ⌝ }
 {
-    let span = span_by(work, n);
-    let at = end_by(work, n);
     let mut p = cut_leaves(work, list, store, page, n, area, tickets, size);
     let last = is_last(work, p, size);
     if last {
+        let span = span_by(work, n);
+        let at = end_by(work, n);
         let given = give_leaf(
             list,
             store,

@@ -42,8 +42,8 @@ use denote.Signature.{plain}
 use Rattle.leaf_node.specs.Page.{count}
 use Rattle.leaf_work.specs.Flat.{rowsOf, keysOf}
 use Rattle.leaf_give.specs.Giving.{Gives, GivenOut}
-use Rattle.digest_leaves.specs.Leaves.{spanBy, endBy, cutOn, isLast}
 use Rattle.leaf_give.specs.Steps.{Along, LeafThere, LeafGiven}
+use Rattle.digest_leaves.specs.Leaves.{cutOn, isLast, spanBy, endBy}
 use Rattle.leaf_node.specs.Limits.{PageSize}
 use Rattle.leaf_work.specs.Lent.{cutoffOf}
 use Rattle.leaf_entries.proofs.Arms.{held, failed}
@@ -63,32 +63,32 @@ use Rattle.leaf_work.proofs.Work.Laws as Work-laws
 use Rattle.leaf_work.specs.declared.Entry.{Entry}
 use Rattle.leaf_work.proofs.Entry as Entry-type
 use Rattle.leaf_work.proofs.Entry.Laws as Entry-laws
-use Rattle.digest_leaves.proofs.span_by as callee₁
-use Rattle.digest_leaves.proofs.span_by.Symbol as callee₁-def
+use Rattle.digest_leaves.proofs.cut_leaves as callee₁
+use Rattle.digest_leaves.proofs.cut_leaves.Symbol as callee₁-def
+use Rattle.digest_leaves.proofs.cut_leaves.Symbol.{name as #digest-leaves·cut-leaves}
+use Rattle.digest_leaves.proofs.cut_leaves.Met as callee₁-thm
+use Rattle.digest_leaves.proofs.is_last as callee₂
+use Rattle.digest_leaves.proofs.is_last.Symbol as callee₂-def
+use Rattle.digest_leaves.proofs.is_last.Symbol.{name as #digest-leaves·is-last}
+use Rattle.digest_leaves.proofs.is_last.Met as callee₂-thm
+use Rattle.digest_leaves.proofs.span_by as callee₃
+use Rattle.digest_leaves.proofs.span_by.Symbol as callee₃-def
 use Rattle.digest_leaves.proofs.span_by.Symbol.{name as #digest-leaves·span-by}
-use Rattle.digest_leaves.proofs.span_by.Met as callee₁-thm
+use Rattle.digest_leaves.proofs.span_by.Met as callee₃-thm
 use Rattle.leaf_cut.specs.declared.Span.{Span}
 use Rattle.leaf_cut.proofs.Span as Span-type
 use Rattle.leaf_cut.proofs.Span.Laws as Span-laws
-use Rattle.digest_leaves.proofs.end_by as callee₂
-use Rattle.digest_leaves.proofs.end_by.Symbol as callee₂-def
+use Rattle.digest_leaves.proofs.end_by as callee₄
+use Rattle.digest_leaves.proofs.end_by.Symbol as callee₄-def
 use Rattle.digest_leaves.proofs.end_by.Symbol.{name as #digest-leaves·end-by}
-use Rattle.digest_leaves.proofs.end_by.Met as callee₂-thm
+use Rattle.digest_leaves.proofs.end_by.Met as callee₄-thm
 use Rattle.leaf_cut.specs.declared.Cursor.{Cursor}
 use Rattle.leaf_cut.proofs.Cursor as Cursor-type
 use Rattle.leaf_cut.proofs.Cursor.Laws as Cursor-laws
-use Rattle.digest_leaves.proofs.cut_leaves as callee₃
-use Rattle.digest_leaves.proofs.cut_leaves.Symbol as callee₃-def
-use Rattle.digest_leaves.proofs.cut_leaves.Symbol.{name as #digest-leaves·cut-leaves}
-use Rattle.digest_leaves.proofs.cut_leaves.Met as callee₃-thm
-use Rattle.digest_leaves.proofs.is_last as callee₄
-use Rattle.digest_leaves.proofs.is_last.Symbol as callee₄-def
-use Rattle.digest_leaves.proofs.is_last.Symbol.{name as #digest-leaves·is-last}
-use Rattle.digest_leaves.proofs.is_last.Met as callee₄-thm
-use Rattle.digest_leaves.proofs.give_leaf as callee₅
-use Rattle.digest_leaves.proofs.give_leaf.Symbol as callee₅-def
-use Rattle.digest_leaves.proofs.give_leaf.Symbol.{name as #digest-leaves·give-leaf}
-use Rattle.digest_leaves.proofs.give_leaf.Met as callee₅-thm
+use Rattle.digest_give.proofs.give_leaf as callee₅
+use Rattle.digest_give.proofs.give_leaf.Symbol as callee₅-def
+use Rattle.digest_give.proofs.give_leaf.Symbol.{name as #digest-give·give-leaf}
+use Rattle.digest_give.proofs.give_leaf.Met as callee₅-thm
 use Rattle.leaf_cut.specs.declared.Gauge.{Gauge}
 use Rattle.leaf_cut.proofs.Gauge as Gauge-type
 use Rattle.leaf_cut.proofs.Gauge.Laws as Gauge-laws
@@ -136,65 +136,65 @@ module _ {M : Type 1} (𝓤 : URA M) (H : Heap 𝓤) (A : Atoms 𝓤) (mem : Mem
   Callee₅ = tripleOf 𝓤 H A callee₅.signature (callee₅.spec 𝓤 H A mem run)
 
 module _ {M : Type 1} (𝓤 : URA M) (H : Heap 𝓤) (A : Atoms 𝓤) (W : Given 𝓤 H A) (at-mem : Memory → SProp 𝓤) (run : Routine → Fun 𝓤) where
-  -- `span_by`, whatever it is called with
-  module _ (work : Work) (w-work : Val) (n : ℕ) (w-n : Val) where
-    abbrev args₁ : Work × (ℕ × Unit {0})
-    args₁ = (work, (n, tt))
-
-    abbrev to₁ : (Callee₁ 𝓤 H A at-mem run) .Ghost
-    to₁ = ((tt, tt, tt, args₁, (w-work ∷ [], (w-n ∷ [], tt))), tt)
-
-    asks₁ : Is Work-type.the-row work (w-work ∷ []) → Is usize n (w-n ∷ []) → ent 𝓤 (emp 𝓤) ((Callee₁ 𝓤 H A at-mem run) .pre to₁)
-    asks₁ is-work is-n =
-        qed W ([]) ∵ k-nothing ! $ k-owned ! usize (Is usize) (uint-makes 𝓤 H A W w64) n _ is-n $ k-fjoin ! $ k-owned ! Work-type.the-row (Is Work-type.the-row) (LL.makes Work-type.the-type Work-laws.the-plain 𝓤 H A) work _ is-work $ k-fjoin ! $ k-nothing ! $ k-join ! $ k-frame ! $ k-done !
-
-  abbrev Said₁ : (work : Work) (n : ℕ) (r : Span) → Type 0
-  Said₁ work n r = r ≡ spanBy work n
-
-  -- `end_by`, whatever it is called with
-  module _ (work : Work) (w-work : Val) (n : ℕ) (w-n : Val) where
-    abbrev args₂ : Work × (ℕ × Unit {0})
-    args₂ = (work, (n, tt))
-
-    abbrev to₂ : (Callee₂ 𝓤 H A at-mem run) .Ghost
-    to₂ = ((tt, tt, tt, args₂, (w-work ∷ [], (w-n ∷ [], tt))), tt)
-
-    asks₂ : Is Work-type.the-row work (w-work ∷ []) → Is usize n (w-n ∷ []) → (work .low ≤ n) → ent 𝓤 (emp 𝓤) ((Callee₂ 𝓤 H A at-mem run) .pre to₂)
-    asks₂ is-work is-n req =
-        qed W ([]) ∵ k-says ! req $ k-nothing ! $ k-owned ! usize (Is usize) (uint-makes 𝓤 H A W w64) n _ is-n $ k-fjoin ! $ k-owned ! Work-type.the-row (Is Work-type.the-row) (LL.makes Work-type.the-type Work-laws.the-plain 𝓤 H A) work _ is-work $ k-fjoin ! $ k-nothing ! $ k-frame ! $ k-done !
-
-  abbrev Said₂ : (work : Work) (n : ℕ) (r : Cursor) → Type 0
-  Said₂ work n r = r ≡ endBy work n
-
   -- `cut_leaves`, whatever it is called with
   module _ (κ₀ : Lft) (q₀ : Share) (κ₁ : Lft) (q₁ : Share) (κ₂ : Lft) (q₂ : Share) (κ₃ : Lft) (q₃ : Share) (κ₄ : Lft) (q₄ : Share) (work : Work) (w-work : Val) (b-list o-list : ℕ) (γ-list : GName) (list : List Entry) (n-list : ℕ) (b-store o-store : ℕ) (γ-store : GName) (store : List ℕ) (n-store : ℕ) (b-page o-page : ℕ) (γ-page : GName) (page : List ℕ) (n-page : ℕ) (n : ℕ) (w-n : Val) (b-area o-area : ℕ) (γ-area : GName) (area : List ℕ) (n-area : ℕ) (b-tickets o-tickets : ℕ) (γ-tickets : GName) (tickets : List ℕ) (n-tickets : ℕ) (size : ℕ) (w-size : Val) where
-    abbrev args₃ : Work × (RefT (List Entry) × (RefT (List ℕ) × (RefT (List ℕ) × (ℕ × (RefT (List ℕ) × (RefT (List ℕ) × (ℕ × Unit {0})))))))
-    args₃ = (work, ((record { ptr = (b-list, o-list); name = γ-list; now = list }), ((record { ptr = (b-store, o-store); name = γ-store; now = store }), ((record { ptr = (b-page, o-page); name = γ-page; now = page }), (n, ((record { ptr = (b-area, o-area); name = γ-area; now = area }), ((record { ptr = (b-tickets, o-tickets); name = γ-tickets; now = tickets }), (size, tt))))))))
+    abbrev args₁ : Work × (RefT (List Entry) × (RefT (List ℕ) × (RefT (List ℕ) × (ℕ × (RefT (List ℕ) × (RefT (List ℕ) × (ℕ × Unit {0})))))))
+    args₁ = (work, ((record { ptr = (b-list, o-list); name = γ-list; now = list }), ((record { ptr = (b-store, o-store); name = γ-store; now = store }), ((record { ptr = (b-page, o-page); name = γ-page; now = page }), (n, ((record { ptr = (b-area, o-area); name = γ-area; now = area }), ((record { ptr = (b-tickets, o-tickets); name = γ-tickets; now = tickets }), (size, tt))))))))
 
-    abbrev to₃ : (Callee₃ 𝓤 H A at-mem run) .Ghost
-    to₃ = (((κ₀, (κ₁, (κ₂, (κ₃, (κ₄, tt))))), (q₀, (q₁, (q₂, (q₃, (q₄, tt))))), tt, args₃, (w-work ∷ [], (sliceVal (b-list, o-list) n-list ∷ [], (sliceVal (b-store, o-store) n-store ∷ [], (sliceVal (b-page, o-page) n-page ∷ [], (w-n ∷ [], (sliceVal (b-area, o-area) n-area ∷ [], (sliceVal (b-tickets, o-tickets) n-tickets ∷ [], (w-size ∷ [], tt))))))))), tt)
+    abbrev to₁ : (Callee₁ 𝓤 H A at-mem run) .Ghost
+    to₁ = (((κ₀, (κ₁, (κ₂, (κ₃, (κ₄, tt))))), (q₀, (q₁, (q₂, (q₃, (q₄, tt))))), tt, args₁, (w-work ∷ [], (sliceVal (b-list, o-list) n-list ∷ [], (sliceVal (b-store, o-store) n-store ∷ [], (sliceVal (b-page, o-page) n-page ∷ [], (w-n ∷ [], (sliceVal (b-area, o-area) n-area ∷ [], (sliceVal (b-tickets, o-tickets) n-tickets ∷ [], (w-size ∷ [], tt))))))))), tt)
 
-    asks₃ : Is Work-type.the-row work (w-work ∷ []) → Is usize n (w-n ∷ []) → Is usize size (w-size ∷ []) → ((Gives size work (rowsOf (list)) (keysOf (list)) (store) (page) (area) (tickets)) × (n ≡ count (page))) → ent 𝓤 (⋆ 𝓤 H A (‵ (flft κ₀ q₀) ∷ ‵ (flft κ₁ q₁) ∷ ‵ (flft κ₂ q₂) ∷ ‵ (flft κ₃ q₃) ∷ ‵ (flft κ₄ q₄) ∷ ‵ (ShrSlice (named 0) κ₀ Entry-type.the-row .own (record { ptr = (b-list, o-list); name = γ-list; now = list }) (sliceVal (b-list, o-list) n-list ∷ [])) ∷ ‵ (ShrSlice (named 1) κ₁ u8 .own (record { ptr = (b-store, o-store); name = γ-store; now = store }) (sliceVal (b-store, o-store) n-store ∷ [])) ∷ ‵ (ShrSlice (named 2) κ₂ u8 .own (record { ptr = (b-page, o-page); name = γ-page; now = page }) (sliceVal (b-page, o-page) n-page ∷ [])) ∷ ‵ (MutSlice (named 3) κ₃ u8 .own (record { ptr = (b-area, o-area); name = γ-area; now = area }) (sliceVal (b-area, o-area) n-area ∷ [])) ∷ ‵ (MutSlice (named 4) κ₄ u8 .own (record { ptr = (b-tickets, o-tickets); name = γ-tickets; now = tickets }) (sliceVal (b-tickets, o-tickets) n-tickets ∷ [])) ∷ [])) ((Callee₃ 𝓤 H A at-mem run) .pre to₃)
-    asks₃ is-work is-n is-size req =
+    asks₁ : Is Work-type.the-row work (w-work ∷ []) → Is usize n (w-n ∷ []) → Is usize size (w-size ∷ []) → ((Gives size work (rowsOf (list)) (keysOf (list)) (store) (page) (area) (tickets)) × (n ≡ count (page))) → ent 𝓤 (⋆ 𝓤 H A (‵ (flft κ₀ q₀) ∷ ‵ (flft κ₁ q₁) ∷ ‵ (flft κ₂ q₂) ∷ ‵ (flft κ₃ q₃) ∷ ‵ (flft κ₄ q₄) ∷ ‵ (ShrSlice (named 0) κ₀ Entry-type.the-row .own (record { ptr = (b-list, o-list); name = γ-list; now = list }) (sliceVal (b-list, o-list) n-list ∷ [])) ∷ ‵ (ShrSlice (named 1) κ₁ u8 .own (record { ptr = (b-store, o-store); name = γ-store; now = store }) (sliceVal (b-store, o-store) n-store ∷ [])) ∷ ‵ (ShrSlice (named 2) κ₂ u8 .own (record { ptr = (b-page, o-page); name = γ-page; now = page }) (sliceVal (b-page, o-page) n-page ∷ [])) ∷ ‵ (MutSlice (named 3) κ₃ u8 .own (record { ptr = (b-area, o-area); name = γ-area; now = area }) (sliceVal (b-area, o-area) n-area ∷ [])) ∷ ‵ (MutSlice (named 4) κ₄ u8 .own (record { ptr = (b-tickets, o-tickets); name = γ-tickets; now = tickets }) (sliceVal (b-tickets, o-tickets) n-tickets ∷ [])) ∷ [])) ((Callee₁ 𝓤 H A at-mem run) .pre to₁)
+    asks₁ is-work is-n is-size req =
         qed W (‵ (flft κ₀ q₀) ∷ ‵ (flft κ₁ q₁) ∷ ‵ (flft κ₂ q₂) ∷ ‵ (flft κ₃ q₃) ∷ ‵ (flft κ₄ q₄) ∷ ‵ (ShrSlice (named 0) κ₀ Entry-type.the-row .own (record { ptr = (b-list, o-list); name = γ-list; now = list }) (sliceVal (b-list, o-list) n-list ∷ [])) ∷ ‵ (ShrSlice (named 1) κ₁ u8 .own (record { ptr = (b-store, o-store); name = γ-store; now = store }) (sliceVal (b-store, o-store) n-store ∷ [])) ∷ ‵ (ShrSlice (named 2) κ₂ u8 .own (record { ptr = (b-page, o-page); name = γ-page; now = page }) (sliceVal (b-page, o-page) n-page ∷ [])) ∷ ‵ (MutSlice (named 3) κ₃ u8 .own (record { ptr = (b-area, o-area); name = γ-area; now = area }) (sliceVal (b-area, o-area) n-area ∷ [])) ∷ ‵ (MutSlice (named 4) κ₄ u8 .own (record { ptr = (b-tickets, o-tickets); name = γ-tickets; now = tickets }) (sliceVal (b-tickets, o-tickets) n-tickets ∷ [])) ∷ []) ∵ k-says ! req $ k-nothing ! $ k-owned ! usize (Is usize) (uint-makes 𝓤 H A W w64) size _ is-size $ k-fjoin ! $ k-move ! (10 ∷ 0 ∷ []) $ k-fjoin ! $ k-move ! (9 ∷ 0 ∷ []) $ k-fjoin ! $ k-owned ! usize (Is usize) (uint-makes 𝓤 H A W w64) n _ is-n $ k-fjoin ! $ k-move ! (8 ∷ 0 ∷ []) $ k-fjoin ! $ k-move ! (7 ∷ 0 ∷ []) $ k-fjoin ! $ k-move ! (6 ∷ 0 ∷ []) $ k-fjoin ! $ k-owned ! Work-type.the-row (Is Work-type.the-row) (LL.makes Work-type.the-type Work-laws.the-plain 𝓤 H A) work _ is-work $ k-fjoin ! $ k-nothing ! $ k-move ! (6 ∷ 0 ∷ []) $ k-join ! $ k-move ! (5 ∷ 0 ∷ []) $ k-join ! $ k-move ! (4 ∷ 0 ∷ []) $ k-join ! $ k-move ! (3 ∷ 0 ∷ []) $ k-join ! $ k-move ! (2 ∷ 0 ∷ []) $ k-join ! $ k-frame ! $ k-done !
 
-  abbrev Said₃ : (work : Work) (list : List Entry) (store : List ℕ) (page : List ℕ) (n : ℕ) (area : List ℕ) (tickets : List ℕ) (size : ℕ) (r : Progress) (area-exit : List ℕ) (tickets-exit : List ℕ) → Type 0
-  Said₃ work list store page n area tickets size r area-exit tickets-exit = Along size work (rowsOf (list)) (keysOf (list)) (store) (page) (area) (tickets) (cutOn size work (list) (store) (page)) r (area-exit) (tickets-exit)
+  abbrev Said₁ : (work : Work) (list : List Entry) (store : List ℕ) (page : List ℕ) (n : ℕ) (area : List ℕ) (tickets : List ℕ) (size : ℕ) (r : Progress) (area-exit : List ℕ) (tickets-exit : List ℕ) → Type 0
+  Said₁ work list store page n area tickets size r area-exit tickets-exit = Along size work (rowsOf (list)) (keysOf (list)) (store) (page) (area) (tickets) (cutOn size work (list) (store) (page)) r (area-exit) (tickets-exit)
 
   -- `is_last`, whatever it is called with
   module _ (work : Work) (w-work : Val) (p : Progress) (w-p : Val) (size : ℕ) (w-size : Val) where
-    abbrev args₄ : Work × (Progress × (ℕ × Unit {0}))
-    args₄ = (work, (p, (size, tt)))
+    abbrev args₂ : Work × (Progress × (ℕ × Unit {0}))
+    args₂ = (work, (p, (size, tt)))
 
-    abbrev to₄ : (Callee₄ 𝓤 H A at-mem run) .Ghost
-    to₄ = ((tt, tt, tt, args₄, (w-work ∷ [], (w-p ∷ [], (w-size ∷ [], tt)))), tt)
+    abbrev to₂ : (Callee₂ 𝓤 H A at-mem run) .Ghost
+    to₂ = ((tt, tt, tt, args₂, (w-work ∷ [], (w-p ∷ [], (w-size ∷ [], tt)))), tt)
 
-    asks₄ : Is Work-type.the-row work (w-work ∷ []) → Is Progress-type.the-row p (w-p ∷ []) → Is usize size (w-size ∷ []) → ((PageSize size) × (p .left .count ≤ 98304) × (p .left .bytes ≤ 98304)) → ent 𝓤 (emp 𝓤) ((Callee₄ 𝓤 H A at-mem run) .pre to₄)
-    asks₄ is-work is-p is-size req =
+    asks₂ : Is Work-type.the-row work (w-work ∷ []) → Is Progress-type.the-row p (w-p ∷ []) → Is usize size (w-size ∷ []) → ((PageSize size) × (p .left .count ≤ 98304) × (p .left .bytes ≤ 98304)) → ent 𝓤 (emp 𝓤) ((Callee₂ 𝓤 H A at-mem run) .pre to₂)
+    asks₂ is-work is-p is-size req =
         qed W ([]) ∵ k-says ! req $ k-nothing ! $ k-owned ! usize (Is usize) (uint-makes 𝓤 H A W w64) size _ is-size $ k-fjoin ! $ k-owned ! Progress-type.the-row (Is Progress-type.the-row) (LL.makes Progress-type.the-type Progress-laws.the-plain 𝓤 H A) p _ is-p $ k-fjoin ! $ k-owned ! Work-type.the-row (Is Work-type.the-row) (LL.makes Work-type.the-type Work-laws.the-plain 𝓤 H A) work _ is-work $ k-fjoin ! $ k-nothing ! $ k-frame ! $ k-done !
 
-  abbrev Said₄ : (work : Work) (p : Progress) (size : ℕ) (r : Bool) → Type 0
-  Said₄ work p size r = r ≡ isLast size work p
+  abbrev Said₂ : (work : Work) (p : Progress) (size : ℕ) (r : Bool) → Type 0
+  Said₂ work p size r = r ≡ isLast size work p
+
+  -- `span_by`, whatever it is called with
+  module _ (work : Work) (w-work : Val) (n : ℕ) (w-n : Val) where
+    abbrev args₃ : Work × (ℕ × Unit {0})
+    args₃ = (work, (n, tt))
+
+    abbrev to₃ : (Callee₃ 𝓤 H A at-mem run) .Ghost
+    to₃ = ((tt, tt, tt, args₃, (w-work ∷ [], (w-n ∷ [], tt))), tt)
+
+    asks₃ : Is Work-type.the-row work (w-work ∷ []) → Is usize n (w-n ∷ []) → ent 𝓤 (emp 𝓤) ((Callee₃ 𝓤 H A at-mem run) .pre to₃)
+    asks₃ is-work is-n =
+        qed W ([]) ∵ k-nothing ! $ k-owned ! usize (Is usize) (uint-makes 𝓤 H A W w64) n _ is-n $ k-fjoin ! $ k-owned ! Work-type.the-row (Is Work-type.the-row) (LL.makes Work-type.the-type Work-laws.the-plain 𝓤 H A) work _ is-work $ k-fjoin ! $ k-nothing ! $ k-join ! $ k-frame ! $ k-done !
+
+  abbrev Said₃ : (work : Work) (n : ℕ) (r : Span) → Type 0
+  Said₃ work n r = r ≡ spanBy work n
+
+  -- `end_by`, whatever it is called with
+  module _ (work : Work) (w-work : Val) (n : ℕ) (w-n : Val) where
+    abbrev args₄ : Work × (ℕ × Unit {0})
+    args₄ = (work, (n, tt))
+
+    abbrev to₄ : (Callee₄ 𝓤 H A at-mem run) .Ghost
+    to₄ = ((tt, tt, tt, args₄, (w-work ∷ [], (w-n ∷ [], tt))), tt)
+
+    asks₄ : Is Work-type.the-row work (w-work ∷ []) → Is usize n (w-n ∷ []) → (work .low ≤ n) → ent 𝓤 (emp 𝓤) ((Callee₄ 𝓤 H A at-mem run) .pre to₄)
+    asks₄ is-work is-n req =
+        qed W ([]) ∵ k-says ! req $ k-nothing ! $ k-owned ! usize (Is usize) (uint-makes 𝓤 H A W w64) n _ is-n $ k-fjoin ! $ k-owned ! Work-type.the-row (Is Work-type.the-row) (LL.makes Work-type.the-type Work-laws.the-plain 𝓤 H A) work _ is-work $ k-fjoin ! $ k-nothing ! $ k-frame ! $ k-done !
+
+  abbrev Said₄ : (work : Work) (n : ℕ) (r : Cursor) → Type 0
+  Said₄ work n r = r ≡ endBy work n
 
   -- `give_leaf`, whatever it is called with
   module _ (κ₀ : Lft) (q₀ : Share) (κ₁ : Lft) (q₁ : Share) (κ₂ : Lft) (q₂ : Share) (κ₃ : Lft) (q₃ : Share) (κ₄ : Lft) (q₄ : Share) (b-list o-list : ℕ) (γ-list : GName) (list : List Entry) (n-list : ℕ) (b-store o-store : ℕ) (γ-store : GName) (store : List ℕ) (n-store : ℕ) (b-page o-page : ℕ) (γ-page : GName) (page : List ℕ) (n-page : ℕ) (span : Span) (w-span : Val) (p : Progress) (w-p : Val) (leaf : Gauge) (w-leaf : Val) (at : Cursor) (w-at : Val) (work : Work) (w-work : Val) (b-area o-area : ℕ) (γ-area : GName) (area : List ℕ) (n-area : ℕ) (b-tickets o-tickets : ℕ) (γ-tickets : GName) (tickets : List ℕ) (n-tickets : ℕ) (size : ℕ) (w-size : Val) where
@@ -271,7 +271,7 @@ module _ {M : Type 1} (𝓤 : URA M) (H : Heap 𝓤) (A : Atoms 𝓤) (W : Given
   the-exit r w is area-exit len-area tickets-exit len-tickets fact-of =
       qed W (‵ (flft κ₀ q₀) ∷ ‵ (flft κ₁ q₁) ∷ ‵ (flft κ₂ q₂) ∷ ‵ (flft κ₃ q₃) ∷ ‵ (flft κ₄ q₄) ∷ ‵ (Own-list list) ∷ ‵ (Own-store store) ∷ ‵ (Own-page page) ∷ ‵ (Own-area area-exit) ∷ ‵ (Own-tickets tickets-exit) ∷ []) ∵ k-suffices ! _ (ends-at 𝓤 H A own.ended stayed (own.clauses 𝓤 H A at-mem run) W (((κ₀, (κ₁, (κ₂, (κ₃, (κ₄, tt))))), (q₀, (q₁, (q₂, (q₃, (q₄, tt))))), tt, the-args, the-vals), tt) w r (tt, (tt, (tt, (tt, (tt, (area-exit, (tickets-exit, (tt, tt)))))))) (tt, (tt, (tt, (tt, (tt, (len-area, (len-tickets, (tt, tt))))))))) $ k-says ! fact-of $ k-nothing ! $ k-move ! (5 ∷ 0 ∷ []) $ k-join ! $ k-move ! (4 ∷ 0 ∷ []) $ k-join ! $ k-move ! (3 ∷ 0 ∷ []) $ k-join ! $ k-move ! (2 ∷ 0 ∷ []) $ k-join ! $ k-move ! (1 ∷ 0 ∷ []) $ k-join ! $ k-frame ! $ k-nothing ! $ k-owned ! usize (Is usize) (uint-makes 𝓤 H A W w64) size _ (refl, size-fits) $ k-fjoin ! $ k-move ! (5 ∷ 0 ∷ []) $ k-fjoin ! $ k-move ! (4 ∷ 0 ∷ []) $ k-fjoin ! $ k-owned ! usize (Is usize) (uint-makes 𝓤 H A W w64) n _ (refl, n-fits) $ k-fjoin ! $ k-move ! (3 ∷ 0 ∷ []) $ k-fjoin ! $ k-move ! (2 ∷ 0 ∷ []) $ k-fjoin ! $ k-move ! (1 ∷ 0 ∷ []) $ k-fjoin ! $ k-owned ! Work-type.the-row (Is Work-type.the-row) (LL.makes Work-type.the-type Work-laws.the-plain 𝓤 H A) work _ is-work $ k-fjoin ! $ k-owned ! Progress-type.the-row (Is Progress-type.the-row) (LL.makes Progress-type.the-type Progress-laws.the-plain 𝓤 H A) r _ is $ k-move ! (1 ∷ 0 ∷ []) $ k-done !
 
-  module _ (𝓣 : Tables 𝓤 H) (known₁ : Triple 𝓤 (𝓣 .C #digest-leaves·span-by) (Callee₁ 𝓤 H A at-mem run)) (known₂ : Triple 𝓤 (𝓣 .C #digest-leaves·end-by) (Callee₂ 𝓤 H A at-mem run)) (known₃ : Triple 𝓤 (𝓣 .C #digest-leaves·cut-leaves) (Callee₃ 𝓤 H A at-mem run)) (known₄ : Triple 𝓤 (𝓣 .C #digest-leaves·is-last) (Callee₄ 𝓤 H A at-mem run)) (known₅ : Triple 𝓤 (𝓣 .C #digest-leaves·give-leaf) (Callee₅ 𝓤 H A at-mem run)) where
+  module _ (𝓣 : Tables 𝓤 H) (known₁ : Triple 𝓤 (𝓣 .C #digest-leaves·cut-leaves) (Callee₁ 𝓤 H A at-mem run)) (known₂ : Triple 𝓤 (𝓣 .C #digest-leaves·is-last) (Callee₂ 𝓤 H A at-mem run)) (known₃ : Triple 𝓤 (𝓣 .C #digest-leaves·span-by) (Callee₃ 𝓤 H A at-mem run)) (known₄ : Triple 𝓤 (𝓣 .C #digest-leaves·end-by) (Callee₄ 𝓤 H A at-mem run)) (known₅ : Triple 𝓤 (𝓣 .C #digest-give·give-leaf) (Callee₅ 𝓤 H A at-mem run)) where
     abbrev En : (l₀ l₁ l₂ l₃ l₄ l₅ l₆ l₇ l₈ l₉ l₁₀ l₁₁ l₁₂ l₁₃ l₁₄ l₁₅ l₁₆ l₁₇ l₁₈ l₁₉ l₂₀ l₂₁ l₂₂ : ℕ) → Env 𝓤 H
     En l₀ l₁ l₂ l₃ l₄ l₅ l₆ l₇ l₈ l₉ l₁₀ l₁₁ l₁₂ l₁₃ l₁₄ l₁₅ l₁₆ l₁₇ l₁₈ l₁₉ l₂₀ l₂₁ l₂₂ = ((tyAt piece.locals 0), l₀) ∷ ((tyAt piece.locals 1), l₁) ∷ ((tyAt piece.locals 2), l₂) ∷ ((tyAt piece.locals 3), l₃) ∷ ((tyAt piece.locals 4), l₄) ∷ ((tyAt piece.locals 5), l₅) ∷ ((tyAt piece.locals 6), l₆) ∷ ((tyAt piece.locals 7), l₇) ∷ ((tyAt piece.locals 8), l₈) ∷ ((tyAt piece.locals 9), l₉) ∷ ((tyAt piece.locals 10), l₁₀) ∷ ((tyAt piece.locals 11), l₁₁) ∷ ((tyAt piece.locals 12), l₁₂) ∷ ((tyAt piece.locals 13), l₁₃) ∷ ((tyAt piece.locals 14), l₁₄) ∷ ((tyAt piece.locals 15), l₁₅) ∷ ((tyAt piece.locals 16), l₁₆) ∷ ((tyAt piece.locals 17), l₁₇) ∷ ((tyAt piece.locals 18), l₁₈) ∷ ((tyAt piece.locals 19), l₁₉) ∷ ((tyAt piece.locals 20), l₂₀) ∷ ((tyAt piece.locals 21), l₂₁) ∷ ((tyAt piece.locals 22), l₂₂) ∷ []
 
@@ -299,30 +299,6 @@ module _ {M : Type 1} (𝓤 : URA M) (H : Heap 𝓤) (A : Atoms 𝓤) (W : Given
         k-fsplit ! $ k-move ! (1 ∷ []) $
         k-fsplit ! $ k-drop ! $
         k-drop ! $
-        use0 W (raw ((Callee₁ 𝓤 H A at-mem run) .pre (to₁ 𝓤 H A W at-mem run work (mach-Work work) n (vint w64 n)))) (asks₁ 𝓤 H A W at-mem run work (mach-Work work) n (vint w64 n) is-work (refl, n-fits)) $
-        stands W (_ ∷ _ ∷ _ ∷ _ ∷ _ ∷ _ ∷ _ ∷ _ ∷ _ ∷ _ ∷ _ ∷ []) (none ∷ has _ ∷ has _ ∷ has _ ∷ has _ ∷ has _ ∷ has _ ∷ has _ ∷ has _ ∷ []) $
-        k-calls-at ! (fmOf 𝓤 H (W .laws) 𝓣) (Callee₁ 𝓤 H A at-mem run) known₁ (to₁ 𝓤 H A W at-mem run work (mach-Work work) n (vint w64 n)) (k-and-then ! (k-load ! (k-from ! (k-stop !)) (k-look ! 53 refl)) (k-and-then ! (k-load ! (k-from ! (k-stop !)) (k-look ! 45 refl)) (k-no-more !))) (λ w₁.
-        use1 W (later (k-some (λ (r₁ : Span). (‵ ftrue ⊛ ‵ (Span-type.the-row .own r₁ (w₁ ∷ []))) ⊛ raw (ensured 𝓤 H A callee₁.ended (callee₁.clauses 𝓤 H A at-mem run) tt (args₁ 𝓤 H A W at-mem run work (mach-Work work) n (vint w64 n)) tt r₁)))) (id⊢ 𝓤 _) $ k-await ! tt $ k-pick ! (λ r₁.
-        k-split ! $ k-move ! (1 ∷ []) $
-        use1 W (raw (fact 𝓤 (Said₁ 𝓤 H A W at-mem run work n r₁))) (exE 𝓤 _ (λ ws. snd∗ 𝓤 (sem 𝓤 H A (lasts callee₁.ended tt (args₁ 𝓤 H A W at-mem run work (mach-Work work) n (vint w64 n)) ws)) (fact 𝓤 (Said₁ 𝓤 H A W at-mem run work n r₁)))) $
-        k-heard ! (Said₁ 𝓤 H A W at-mem run work n r₁) (λ f₁.
-        k-split ! $ k-move ! (1 ∷ []) $
-        k-peeks ! Span-type.the-row (Is Span-type.the-row) (shows 𝓤 H A Span-type.the-row) r₁ (w₁ ∷ []) (λ is₁.
-        k-land ! (k-from ! (k-stop !)) (k-init ! 38 refl (LL.lawful Span-type.the-type Span-laws.the-laws 𝓤 H A W .typed r₁ _ is₁ .0)) $
-        k-drop ! $
-        k-drop ! $
-        use0 W (raw ((Callee₂ 𝓤 H A at-mem run) .pre (to₂ 𝓤 H A W at-mem run work (mach-Work work) n (vint w64 n)))) (asks₂ 𝓤 H A W at-mem run work (mach-Work work) n (vint w64 n) is-work (refl, n-fits) (the-end-asks size work list store page area tickets n req)) $
-        stands W (_ ∷ _ ∷ _ ∷ _ ∷ _ ∷ _ ∷ _ ∷ _ ∷ _ ∷ _ ∷ _ ∷ []) (none ∷ has _ ∷ has _ ∷ has _ ∷ has _ ∷ has _ ∷ has _ ∷ has _ ∷ has _ ∷ has _ ∷ []) $
-        k-calls-at ! (fmOf 𝓤 H (W .laws) 𝓣) (Callee₂ 𝓤 H A at-mem run) known₂ (to₂ 𝓤 H A W at-mem run work (mach-Work work) n (vint w64 n)) (k-and-then ! (k-load ! (k-from ! (k-stop !)) (k-look ! 53 refl)) (k-and-then ! (k-load ! (k-from ! (k-stop !)) (k-look ! 45 refl)) (k-no-more !))) (λ w₂.
-        use1 W (later (k-some (λ (r₂ : Cursor). (‵ ftrue ⊛ ‵ (Cursor-type.the-row .own r₂ (w₂ ∷ []))) ⊛ raw (ensured 𝓤 H A callee₂.ended (callee₂.clauses 𝓤 H A at-mem run) tt (args₂ 𝓤 H A W at-mem run work (mach-Work work) n (vint w64 n)) tt r₂)))) (id⊢ 𝓤 _) $ k-await ! tt $ k-pick ! (λ r₂.
-        k-split ! $ k-move ! (1 ∷ []) $
-        use1 W (raw (fact 𝓤 (Said₂ 𝓤 H A W at-mem run work n r₂))) (exE 𝓤 _ (λ ws. snd∗ 𝓤 (sem 𝓤 H A (lasts callee₂.ended tt (args₂ 𝓤 H A W at-mem run work (mach-Work work) n (vint w64 n)) ws)) (fact 𝓤 (Said₂ 𝓤 H A W at-mem run work n r₂)))) $
-        k-heard ! (Said₂ 𝓤 H A W at-mem run work n r₂) (λ f₂.
-        k-split ! $ k-move ! (1 ∷ []) $
-        k-peeks ! Cursor-type.the-row (Is Cursor-type.the-row) (shows 𝓤 H A Cursor-type.the-row) r₂ (w₂ ∷ []) (λ is₂.
-        k-land ! (k-from ! (k-stop !)) (k-init ! 36 refl (LL.lawful Cursor-type.the-type Cursor-laws.the-laws 𝓤 H A W .typed r₂ _ is₂ .0)) $
-        k-drop ! $
-        k-drop ! $
         k-assigns ! (k-addr ! (k-from ! (k-fld ! refl (k-hop ! (k-look-in ! 42 (k-sub ! 0 refl (k-whole !))) (k-stop !))))) (k-from ! (k-stop !)) (k-init ! 26 refl (tt, tt)) $
         k-assigns ! (k-agg ! (k-and-then ! (k-load ! (k-from ! (k-stop !)) (k-look ! 26 refl)) (k-and-then ! (k-load ! (k-from ! (k-fld ! refl (k-stop !))) (k-look-in ! 42 (k-sub ! 1 refl (k-whole !)))) (k-no-more !)))) (k-from ! (k-stop !)) (k-init ! 24 refl (tt, (tt, (record { fits = room-area .0 }, tt)))) $
         k-assigns ! (k-addr ! (k-from ! (k-fld ! refl (k-hop ! (k-look-in ! 40 (k-sub ! 0 refl (k-whole !))) (k-stop !))))) (k-from ! (k-stop !)) (k-init ! 22 refl (tt, tt)) $
@@ -333,34 +309,34 @@ module _ {M : Type 1} (𝓤 : URA M) (H : Heap 𝓤) (A : Atoms 𝓤) (W : Given
         use1 W (‵ (Own-store store) ⊛ ‵ (Own-store store)) (shr-slice-copy 𝓤 H A W (named 1) κ₁ u8 .twice (ref-store store) (sv-store ∷ [])) $ k-split ! $
         k-move ! (6 ∷ []) $
         use1 W (‵ (Own-page page) ⊛ ‵ (Own-page page)) (shr-slice-copy 𝓤 H A W (named 2) κ₂ u8 .twice (ref-page page) (sv-page ∷ [])) $ k-split ! $
-        k-lft-new ! tt (λ ν-area₃.
+        k-lft-new ! tt (λ ν-area₁.
         k-move ! (8 ∷ 10 ∷ []) $
-        use2 W (later (k-some (λ (δ : GName). ‵ (MutSlice (named 0) (ν-area₃ ∷ []) u8 .own (record { ptr = (b-area, o-area); name = δ; now = area }) (sv-area ∷ [])) ⊛ ‵ (LentAgain u8 κ₃ (ν-area₃ ∷ []) q₃ γ-area b-area o-area δ area)))) (lends-again-at u8 κ₃ (ν-area₃ ∷ []) q₃ γ-area b-area o-area 𝓤 H A W (named 3) (named 0) area (length area) refl) $ k-await ! tt $ k-pick ! (λ δ-area₃. k-split ! $
-        k-lft-new ! tt (λ ν-tickets₃.
+        use2 W (later (k-some (λ (δ : GName). ‵ (MutSlice (named 0) (ν-area₁ ∷ []) u8 .own (record { ptr = (b-area, o-area); name = δ; now = area }) (sv-area ∷ [])) ⊛ ‵ (LentAgain u8 κ₃ (ν-area₁ ∷ []) q₃ γ-area b-area o-area δ area)))) (lends-again-at u8 κ₃ (ν-area₁ ∷ []) q₃ γ-area b-area o-area 𝓤 H A W (named 3) (named 0) area (length area) refl) $ k-await ! tt $ k-pick ! (λ δ-area₁. k-split ! $
+        k-lft-new ! tt (λ ν-tickets₁.
         k-move ! (10 ∷ 11 ∷ []) $
-        use2 W (later (k-some (λ (δ : GName). ‵ (MutSlice (named 0) (ν-tickets₃ ∷ []) u8 .own (record { ptr = (b-tickets, o-tickets); name = δ; now = tickets }) (sv-tickets ∷ [])) ⊛ ‵ (LentAgain u8 κ₄ (ν-tickets₃ ∷ []) q₄ γ-tickets b-tickets o-tickets δ tickets)))) (lends-again-at u8 κ₄ (ν-tickets₃ ∷ []) q₄ γ-tickets b-tickets o-tickets 𝓤 H A W (named 4) (named 0) tickets (length tickets) refl) $ k-await ! tt $ k-pick ! (λ δ-tickets₃. k-split ! $
+        use2 W (later (k-some (λ (δ : GName). ‵ (MutSlice (named 0) (ν-tickets₁ ∷ []) u8 .own (record { ptr = (b-tickets, o-tickets); name = δ; now = tickets }) (sv-tickets ∷ [])) ⊛ ‵ (LentAgain u8 κ₄ (ν-tickets₁ ∷ []) q₄ γ-tickets b-tickets o-tickets δ tickets)))) (lends-again-at u8 κ₄ (ν-tickets₁ ∷ []) q₄ γ-tickets b-tickets o-tickets 𝓤 H A W (named 4) (named 0) tickets (length tickets) refl) $ k-await ! tt $ k-pick ! (λ δ-tickets₁. k-split ! $
         k-move ! (14 ∷ 13 ∷ 12 ∷ 5 ∷ 2 ∷ 10 ∷ 8 ∷ 6 ∷ 3 ∷ 0 ∷ []) $
-        k-group ! 10 $ use1 W (raw ((Callee₃ 𝓤 H A at-mem run) .pre (to₃ 𝓤 H A W at-mem run κ₀ q₀ κ₁ q₁ κ₂ q₂ (ν-area₃ ∷ []) fullShare (ν-tickets₃ ∷ []) fullShare work (mach-Work work) b-list o-list γ-list list (length list) b-store o-store γ-store store (length store) b-page o-page γ-page page (length page) n (vint w64 n) b-area o-area δ-area₃ area (length area) b-tickets o-tickets δ-tickets₃ tickets (length tickets) size (vint w64 size)))) (asks₃ 𝓤 H A W at-mem run κ₀ q₀ κ₁ q₁ κ₂ q₂ (ν-area₃ ∷ []) fullShare (ν-tickets₃ ∷ []) fullShare work (mach-Work work) b-list o-list γ-list list (length list) b-store o-store γ-store store (length store) b-page o-page γ-page page (length page) n (vint w64 n) b-area o-area δ-area₃ area (length area) b-tickets o-tickets δ-tickets₃ tickets (length tickets) size (vint w64 size) is-work (refl, n-fits) (refl, size-fits) (req)) $
-        stands W (_ ∷ _ ∷ _ ∷ _ ∷ _ ∷ _ ∷ []) (none ∷ has _ ∷ has _ ∷ has _ ∷ has _ ∷ has _ ∷ has _ ∷ has _ ∷ has _ ∷ has _ ∷ has _ ∷ none ∷ none ∷ none ∷ has _ ∷ has _ ∷ has _ ∷ has _ ∷ []) $
-        k-calls-at ! (fmOf 𝓤 H (W .laws) 𝓣) (Callee₃ 𝓤 H A at-mem run) known₃ (to₃ 𝓤 H A W at-mem run κ₀ q₀ κ₁ q₁ κ₂ q₂ (ν-area₃ ∷ []) fullShare (ν-tickets₃ ∷ []) fullShare work (mach-Work work) b-list o-list γ-list list (length list) b-store o-store γ-store store (length store) b-page o-page γ-page page (length page) n (vint w64 n) b-area o-area δ-area₃ area (length area) b-tickets o-tickets δ-tickets₃ tickets (length tickets) size (vint w64 size)) (k-and-then ! (k-load ! (k-from ! (k-stop !)) (k-look ! 48 refl)) (k-and-then ! (k-load ! (k-from ! (k-stop !)) (k-look ! 46 refl)) (k-and-then ! (k-load ! (k-from ! (k-stop !)) (k-look ! 44 refl)) (k-and-then ! (k-load ! (k-from ! (k-stop !)) (k-look ! 42 refl)) (k-and-then ! (k-load ! (k-from ! (k-stop !)) (k-look ! 40 refl)) (k-and-then ! (k-load ! (k-from ! (k-stop !)) (k-look ! 20 refl)) (k-and-then ! (k-load ! (k-from ! (k-stop !)) (k-look ! 16 refl)) (k-and-then ! (k-load ! (k-from ! (k-stop !)) (k-look ! 34 refl)) (k-no-more !))))))))) (λ w₃.
-        use1 W (later (k-some (λ (r₃ : Progress). ((‵ (flft κ₀ q₀) ⊛ ‵ (flft κ₁ q₁) ⊛ ‵ (flft κ₂ q₂) ⊛ ‵ (flft (ν-area₃ ∷ []) fullShare) ⊛ ‵ (flft (ν-tickets₃ ∷ []) fullShare) ⊛ ‵ ftrue) ⊛ ‵ (Progress-type.the-row .own r₃ (w₃ ∷ []))) ⊛ raw (ensured 𝓤 H A callee₃.ended (callee₃.clauses 𝓤 H A at-mem run) (κ₀, (κ₁, (κ₂, (ν-area₃ ∷ [], (ν-tickets₃ ∷ [], tt))))) (args₃ 𝓤 H A W at-mem run κ₀ q₀ κ₁ q₁ κ₂ q₂ (ν-area₃ ∷ []) fullShare (ν-tickets₃ ∷ []) fullShare work (mach-Work work) b-list o-list γ-list list (length list) b-store o-store γ-store store (length store) b-page o-page γ-page page (length page) n (vint w64 n) b-area o-area δ-area₃ area (length area) b-tickets o-tickets δ-tickets₃ tickets (length tickets) size (vint w64 size)) tt r₃)))) (id⊢ 𝓤 _) $ k-await ! tt $ k-pick ! (λ r₃.
+        k-group ! 10 $ use1 W (raw ((Callee₁ 𝓤 H A at-mem run) .pre (to₁ 𝓤 H A W at-mem run κ₀ q₀ κ₁ q₁ κ₂ q₂ (ν-area₁ ∷ []) fullShare (ν-tickets₁ ∷ []) fullShare work (mach-Work work) b-list o-list γ-list list (length list) b-store o-store γ-store store (length store) b-page o-page γ-page page (length page) n (vint w64 n) b-area o-area δ-area₁ area (length area) b-tickets o-tickets δ-tickets₁ tickets (length tickets) size (vint w64 size)))) (asks₁ 𝓤 H A W at-mem run κ₀ q₀ κ₁ q₁ κ₂ q₂ (ν-area₁ ∷ []) fullShare (ν-tickets₁ ∷ []) fullShare work (mach-Work work) b-list o-list γ-list list (length list) b-store o-store γ-store store (length store) b-page o-page γ-page page (length page) n (vint w64 n) b-area o-area δ-area₁ area (length area) b-tickets o-tickets δ-tickets₁ tickets (length tickets) size (vint w64 size) is-work (refl, n-fits) (refl, size-fits) (req)) $
+        stands W (_ ∷ _ ∷ _ ∷ _ ∷ _ ∷ _ ∷ []) (none ∷ has _ ∷ has _ ∷ has _ ∷ has _ ∷ has _ ∷ has _ ∷ has _ ∷ has _ ∷ none ∷ none ∷ none ∷ none ∷ none ∷ has _ ∷ has _ ∷ has _ ∷ has _ ∷ []) $
+        k-calls-at ! (fmOf 𝓤 H (W .laws) 𝓣) (Callee₁ 𝓤 H A at-mem run) known₁ (to₁ 𝓤 H A W at-mem run κ₀ q₀ κ₁ q₁ κ₂ q₂ (ν-area₁ ∷ []) fullShare (ν-tickets₁ ∷ []) fullShare work (mach-Work work) b-list o-list γ-list list (length list) b-store o-store γ-store store (length store) b-page o-page γ-page page (length page) n (vint w64 n) b-area o-area δ-area₁ area (length area) b-tickets o-tickets δ-tickets₁ tickets (length tickets) size (vint w64 size)) (k-and-then ! (k-load ! (k-from ! (k-stop !)) (k-look ! 48 refl)) (k-and-then ! (k-load ! (k-from ! (k-stop !)) (k-look ! 46 refl)) (k-and-then ! (k-load ! (k-from ! (k-stop !)) (k-look ! 44 refl)) (k-and-then ! (k-load ! (k-from ! (k-stop !)) (k-look ! 42 refl)) (k-and-then ! (k-load ! (k-from ! (k-stop !)) (k-look ! 40 refl)) (k-and-then ! (k-load ! (k-from ! (k-stop !)) (k-look ! 20 refl)) (k-and-then ! (k-load ! (k-from ! (k-stop !)) (k-look ! 16 refl)) (k-and-then ! (k-load ! (k-from ! (k-stop !)) (k-look ! 34 refl)) (k-no-more !))))))))) (λ w₁.
+        use1 W (later (k-some (λ (r₁ : Progress). ((‵ (flft κ₀ q₀) ⊛ ‵ (flft κ₁ q₁) ⊛ ‵ (flft κ₂ q₂) ⊛ ‵ (flft (ν-area₁ ∷ []) fullShare) ⊛ ‵ (flft (ν-tickets₁ ∷ []) fullShare) ⊛ ‵ ftrue) ⊛ ‵ (Progress-type.the-row .own r₁ (w₁ ∷ []))) ⊛ raw (ensured 𝓤 H A callee₁.ended (callee₁.clauses 𝓤 H A at-mem run) (κ₀, (κ₁, (κ₂, (ν-area₁ ∷ [], (ν-tickets₁ ∷ [], tt))))) (args₁ 𝓤 H A W at-mem run κ₀ q₀ κ₁ q₁ κ₂ q₂ (ν-area₁ ∷ []) fullShare (ν-tickets₁ ∷ []) fullShare work (mach-Work work) b-list o-list γ-list list (length list) b-store o-store γ-store store (length store) b-page o-page γ-page page (length page) n (vint w64 n) b-area o-area δ-area₁ area (length area) b-tickets o-tickets δ-tickets₁ tickets (length tickets) size (vint w64 size)) tt r₁)))) (id⊢ 𝓤 _) $ k-await ! tt $ k-pick ! (λ r₁.
         k-split ! $ k-move ! (1 ∷ []) $
-        use1 W (k-some (λ (us : Unit {0} × (Unit {0} × (Unit {0} × (Unit {0} × (Unit {0} × (List ℕ × (List ℕ × (Unit {0} × Unit {0})))))))). ‵ (lasts callee₃.ended (κ₀, (κ₁, (κ₂, (ν-area₃ ∷ [], (ν-tickets₃ ∷ [], tt))))) (args₃ 𝓤 H A W at-mem run κ₀ q₀ κ₁ q₁ κ₂ q₂ (ν-area₃ ∷ []) fullShare (ν-tickets₃ ∷ []) fullShare work (mach-Work work) b-list o-list γ-list list (length list) b-store o-store γ-store store (length store) b-page o-page γ-page page (length page) n (vint w64 n) b-area o-area δ-area₃ area (length area) b-tickets o-tickets δ-tickets₃ tickets (length tickets) size (vint w64 size)) us) ⊛ raw (fact 𝓤 (Said₃ 𝓤 H A W at-mem run work list store page n area tickets size r₃ (us .1 .1 .1 .1 .1 .0) (us .1 .1 .1 .1 .1 .1 .0))))) (id⊢ 𝓤 _) $ k-pick ! (λ zs₃. k-split ! $ k-move ! (1 ∷ []) $
-        k-heard ! (Said₃ 𝓤 H A W at-mem run work list store page n area tickets size r₃ (zs₃ .1 .1 .1 .1 .1 .0) (zs₃ .1 .1 .1 .1 .1 .1 .0)) (λ f₃.
-        let area-exit₃ = zs₃ .1 .1 .1 .1 .1 .0 in let tickets-exit₃ = zs₃ .1 .1 .1 .1 .1 .1 .0 in
+        use1 W (k-some (λ (us : Unit {0} × (Unit {0} × (Unit {0} × (Unit {0} × (Unit {0} × (List ℕ × (List ℕ × (Unit {0} × Unit {0})))))))). ‵ (lasts callee₁.ended (κ₀, (κ₁, (κ₂, (ν-area₁ ∷ [], (ν-tickets₁ ∷ [], tt))))) (args₁ 𝓤 H A W at-mem run κ₀ q₀ κ₁ q₁ κ₂ q₂ (ν-area₁ ∷ []) fullShare (ν-tickets₁ ∷ []) fullShare work (mach-Work work) b-list o-list γ-list list (length list) b-store o-store γ-store store (length store) b-page o-page γ-page page (length page) n (vint w64 n) b-area o-area δ-area₁ area (length area) b-tickets o-tickets δ-tickets₁ tickets (length tickets) size (vint w64 size)) us) ⊛ raw (fact 𝓤 (Said₁ 𝓤 H A W at-mem run work list store page n area tickets size r₁ (us .1 .1 .1 .1 .1 .0) (us .1 .1 .1 .1 .1 .1 .0))))) (id⊢ 𝓤 _) $ k-pick ! (λ zs₁. k-split ! $ k-move ! (1 ∷ []) $
+        k-heard ! (Said₁ 𝓤 H A W at-mem run work list store page n area tickets size r₁ (zs₁ .1 .1 .1 .1 .1 .0) (zs₁ .1 .1 .1 .1 .1 .1 .0)) (λ f₁.
+        let area-exit₁ = zs₁ .1 .1 .1 .1 .1 .0 in let tickets-exit₁ = zs₁ .1 .1 .1 .1 .1 .1 .0 in
         k-fsplit ! $ k-drop ! $
         k-fsplit ! $ k-drop ! $
         k-fsplit ! $ k-drop ! $
         k-fsplit ! $ k-drop ! $
         k-fsplit ! $ k-drop ! $
-        k-fsplit ! $ k-fsplit ! $ k-move ! (1 ∷ []) $ k-feqL ! (λ len-area₃. k-move ! (1 ∷ []) $
-        k-fsplit ! $ k-fsplit ! $ k-move ! (1 ∷ []) $ k-feqL ! (λ len-tickets₃. k-move ! (1 ∷ []) $
+        k-fsplit ! $ k-fsplit ! $ k-move ! (1 ∷ []) $ k-feqL ! (λ len-area₁. k-move ! (1 ∷ []) $
+        k-fsplit ! $ k-fsplit ! $ k-move ! (1 ∷ []) $ k-feqL ! (λ len-tickets₁. k-move ! (1 ∷ []) $
         k-drop ! $
         k-move ! (2 ∷ []) $
         k-split ! $ k-move ! (1 ∷ []) $
-        k-peeks ! Progress-type.the-row (Is Progress-type.the-row) (shows 𝓤 H A Progress-type.the-row) r₃ (w₃ ∷ []) (λ is₃.
-        k-land ! (k-from ! (k-stop !)) (k-init ! 31 refl (LL.lawful Progress-type.the-type Progress-laws.the-laws 𝓤 H A W .typed r₃ _ is₃ .0)) $
-        k-rewrite ! 31 (λ (u : Val). ‵ (fat fullShare (tyAt piece.locals 11) l₁₁ 0 u)) (ap only ((LL.tells Progress-type.the-type Progress-laws.the-laws) r₃ _ is₃)) refl $
+        k-peeks ! Progress-type.the-row (Is Progress-type.the-row) (shows 𝓤 H A Progress-type.the-row) r₁ (w₁ ∷ []) (λ is₁.
+        k-land ! (k-from ! (k-stop !)) (k-init ! 35 refl (LL.lawful Progress-type.the-type Progress-laws.the-laws 𝓤 H A W .typed r₁ _ is₁ .0)) $
+        k-rewrite ! 35 (λ (u : Val). ‵ (fat fullShare (tyAt piece.locals 9) l₉ 0 u)) (ap only ((LL.tells Progress-type.the-type Progress-laws.the-laws) r₁ _ is₁)) refl $
         k-drop ! $
         k-split ! $ k-move ! (1 ∷ []) $
         k-split ! $ k-move ! (1 ∷ []) $
@@ -371,27 +347,51 @@ module _ {M : Type 1} (𝓤 : URA M) (H : Heap 𝓤) (A : Atoms 𝓤) (W : Given
         k-move ! (1 ∷ []) $
         k-lft-end ! tt $
         k-move ! (0 ∷ 8 ∷ 6 ∷ []) $
-        use3 W (later (‵ (Own-area (zs₃ .1 .1 .1 .1 .1 .0)) ⊛ ‵ (flft κ₃ q₃))) (comes-back-at u8 κ₃ (ν-area₃ ∷ []) q₃ γ-area b-area o-area 𝓤 H A W (named 3) (named 0) area (length area) refl δ-area₃ (zs₃ .1 .1 .1 .1 .1 .0) room-area len-area₃) $ k-await ! tt $ k-split ! $
+        use3 W (later (‵ (Own-area (zs₁ .1 .1 .1 .1 .1 .0)) ⊛ ‵ (flft κ₃ q₃))) (comes-back-at u8 κ₃ (ν-area₁ ∷ []) q₃ γ-area b-area o-area 𝓤 H A W (named 3) (named 0) area (length area) refl δ-area₁ (zs₁ .1 .1 .1 .1 .1 .0) room-area len-area₁) $ k-await ! tt $ k-split ! $
         k-move ! (2 ∷ []) $
         k-lft-end ! tt $
         k-move ! (0 ∷ 7 ∷ 6 ∷ []) $
-        use3 W (later (‵ (Own-tickets (zs₃ .1 .1 .1 .1 .1 .1 .0)) ⊛ ‵ (flft κ₄ q₄))) (comes-back-at u8 κ₄ (ν-tickets₃ ∷ []) q₄ γ-tickets b-tickets o-tickets 𝓤 H A W (named 4) (named 0) tickets (length tickets) refl δ-tickets₃ (zs₃ .1 .1 .1 .1 .1 .1 .0) room-tickets len-tickets₃) $ k-await ! tt $ k-split ! $
-        use0 W (raw ((Callee₄ 𝓤 H A at-mem run) .pre (to₄ 𝓤 H A W at-mem run work (mach-Work work) r₃ (mach-Progress r₃) size (vint w64 size)))) (asks₄ 𝓤 H A W at-mem run work (mach-Work work) r₃ (mach-Progress r₃) size (vint w64 size) is-work (subst (λ (u : Val). Is Progress-type.the-row r₃ (u ∷ [])) (ap only ((LL.tells Progress-type.the-type Progress-laws.the-laws) r₃ _ is₃)) is₃) (refl, size-fits) (the-last-asks size work list store page area tickets n req r₃ area-exit₃ tickets-exit₃ f₃)) $
-        stands W (_ ∷ _ ∷ _ ∷ _ ∷ _ ∷ _ ∷ _ ∷ _ ∷ _ ∷ _ ∷ _ ∷ []) (none ∷ has _ ∷ has _ ∷ has _ ∷ has _ ∷ has _ ∷ has _ ∷ has _ ∷ has _ ∷ has _ ∷ has _ ∷ has _ ∷ none ∷ none ∷ has _ ∷ has _ ∷ has _ ∷ has _ ∷ []) $
-        k-calls-at ! (fmOf 𝓤 H (W .laws) 𝓣) (Callee₄ 𝓤 H A at-mem run) known₄ (to₄ 𝓤 H A W at-mem run work (mach-Work work) r₃ (mach-Progress r₃) size (vint w64 size)) (k-and-then ! (k-load ! (k-from ! (k-stop !)) (k-look ! 53 refl)) (k-and-then ! (k-load ! (k-from ! (k-stop !)) (k-look ! 33 refl)) (k-and-then ! (k-load ! (k-from ! (k-stop !)) (k-look ! 39 refl)) (k-no-more !)))) (λ w₄.
-        use1 W (later (k-some (λ (r₄ : Bool). (‵ ftrue ⊛ ‵ (bool .own r₄ (w₄ ∷ []))) ⊛ raw (ensured 𝓤 H A callee₄.ended (callee₄.clauses 𝓤 H A at-mem run) tt (args₄ 𝓤 H A W at-mem run work (mach-Work work) r₃ (mach-Progress r₃) size (vint w64 size)) tt r₄)))) (id⊢ 𝓤 _) $ k-await ! tt $ k-pick ! (λ r₄.
+        use3 W (later (‵ (Own-tickets (zs₁ .1 .1 .1 .1 .1 .1 .0)) ⊛ ‵ (flft κ₄ q₄))) (comes-back-at u8 κ₄ (ν-tickets₁ ∷ []) q₄ γ-tickets b-tickets o-tickets 𝓤 H A W (named 4) (named 0) tickets (length tickets) refl δ-tickets₁ (zs₁ .1 .1 .1 .1 .1 .1 .0) room-tickets len-tickets₁) $ k-await ! tt $ k-split ! $
+        use0 W (raw ((Callee₂ 𝓤 H A at-mem run) .pre (to₂ 𝓤 H A W at-mem run work (mach-Work work) r₁ (mach-Progress r₁) size (vint w64 size)))) (asks₂ 𝓤 H A W at-mem run work (mach-Work work) r₁ (mach-Progress r₁) size (vint w64 size) is-work (subst (λ (u : Val). Is Progress-type.the-row r₁ (u ∷ [])) (ap only ((LL.tells Progress-type.the-type Progress-laws.the-laws) r₁ _ is₁)) is₁) (refl, size-fits) (the-last-asks size work list store page area tickets n req r₁ area-exit₁ tickets-exit₁ f₁)) $
+        stands W (_ ∷ _ ∷ _ ∷ _ ∷ _ ∷ _ ∷ _ ∷ _ ∷ _ ∷ _ ∷ _ ∷ []) (none ∷ has _ ∷ has _ ∷ has _ ∷ has _ ∷ has _ ∷ has _ ∷ has _ ∷ has _ ∷ has _ ∷ none ∷ none ∷ none ∷ none ∷ has _ ∷ has _ ∷ has _ ∷ has _ ∷ []) $
+        k-calls-at ! (fmOf 𝓤 H (W .laws) 𝓣) (Callee₂ 𝓤 H A at-mem run) known₂ (to₂ 𝓤 H A W at-mem run work (mach-Work work) r₁ (mach-Progress r₁) size (vint w64 size)) (k-and-then ! (k-load ! (k-from ! (k-stop !)) (k-look ! 53 refl)) (k-and-then ! (k-load ! (k-from ! (k-stop !)) (k-look ! 37 refl)) (k-and-then ! (k-load ! (k-from ! (k-stop !)) (k-look ! 39 refl)) (k-no-more !)))) (λ w₂.
+        use1 W (later (k-some (λ (r₂ : Bool). (‵ ftrue ⊛ ‵ (bool .own r₂ (w₂ ∷ []))) ⊛ raw (ensured 𝓤 H A callee₂.ended (callee₂.clauses 𝓤 H A at-mem run) tt (args₂ 𝓤 H A W at-mem run work (mach-Work work) r₁ (mach-Progress r₁) size (vint w64 size)) tt r₂)))) (id⊢ 𝓤 _) $ k-await ! tt $ k-pick ! (λ r₂.
         k-split ! $ k-move ! (1 ∷ []) $
-        use1 W (raw (fact 𝓤 (Said₄ 𝓤 H A W at-mem run work r₃ size r₄))) (exE 𝓤 _ (λ ws. snd∗ 𝓤 (sem 𝓤 H A (lasts callee₄.ended tt (args₄ 𝓤 H A W at-mem run work (mach-Work work) r₃ (mach-Progress r₃) size (vint w64 size)) ws)) (fact 𝓤 (Said₄ 𝓤 H A W at-mem run work r₃ size r₄)))) $
-        k-heard ! (Said₄ 𝓤 H A W at-mem run work r₃ size r₄) (λ f₄.
+        use1 W (raw (fact 𝓤 (Said₂ 𝓤 H A W at-mem run work r₁ size r₂))) (exE 𝓤 _ (λ ws. snd∗ 𝓤 (sem 𝓤 H A (lasts callee₂.ended tt (args₂ 𝓤 H A W at-mem run work (mach-Work work) r₁ (mach-Progress r₁) size (vint w64 size)) ws)) (fact 𝓤 (Said₂ 𝓤 H A W at-mem run work r₁ size r₂)))) $
+        k-heard ! (Said₂ 𝓤 H A W at-mem run work r₁ size r₂) (λ f₂.
         k-split ! $ k-move ! (1 ∷ []) $
-        k-peeks ! bool (Is bool) (shows 𝓤 H A bool) r₄ (w₄ ∷ []) (λ is₄.
-        k-land ! (k-from ! (k-stop !)) (k-init ! 32 refl (bool-lawful 𝓤 H A W .typed r₄ _ is₄ .0)) $
-        k-rewrite ! 32 (λ (u : Val). ‵ (fat fullShare (tyAt piece.locals 12) l₁₂ 0 u)) (ap only (bool-tells r₄ _ is₄)) refl $
+        k-peeks ! bool (Is bool) (shows 𝓤 H A bool) r₂ (w₂ ∷ []) (λ is₂.
+        k-land ! (k-from ! (k-stop !)) (k-init ! 36 refl (bool-lawful 𝓤 H A W .typed r₂ _ is₂ .0)) $
+        k-rewrite ! 36 (λ (u : Val). ‵ (fat fullShare (tyAt piece.locals 10) l₁₀ 0 u)) (ap only (bool-tells r₂ _ is₂)) refl $
         k-drop ! $
         k-drop ! $
-        k-assigns ! (k-of-opd ! (k-load ! (k-from ! (k-stop !)) (k-look ! 30 refl))) (k-from ! (k-stop !)) (k-init ! 18 refl (bool-lawful 𝓤 H A W .typed r₄ _ (subst (λ (u : Val). Is bool r₄ (u ∷ [])) (ap only (bool-tells r₄ _ is₄)) is₄) .0)) $
+        k-assigns ! (k-of-opd ! (k-load ! (k-from ! (k-stop !)) (k-look ! 34 refl))) (k-from ! (k-stop !)) (k-init ! 18 refl (bool-lawful 𝓤 H A W .typed r₂ _ (subst (λ (u : Val). Is bool r₂ (u ∷ [])) (ap only (bool-tells r₂ _ is₂)) is₂) .0)) $
         k-first ! $ k-branches ! (k-load ! (k-from ! (k-stop !)) (k-look ! 18 refl))
         (λ yes.
+        use0 W (raw ((Callee₃ 𝓤 H A at-mem run) .pre (to₃ 𝓤 H A W at-mem run work (mach-Work work) n (vint w64 n)))) (asks₃ 𝓤 H A W at-mem run work (mach-Work work) n (vint w64 n) is-work (refl, n-fits)) $
+        stands W (_ ∷ _ ∷ _ ∷ _ ∷ _ ∷ _ ∷ _ ∷ _ ∷ _ ∷ _ ∷ _ ∷ []) (none ∷ has _ ∷ has _ ∷ has _ ∷ has _ ∷ has _ ∷ has _ ∷ has _ ∷ has _ ∷ has _ ∷ has _ ∷ none ∷ none ∷ none ∷ has _ ∷ has _ ∷ has _ ∷ has _ ∷ has _ ∷ []) $
+        k-calls-at ! (fmOf 𝓤 H (W .laws) 𝓣) (Callee₃ 𝓤 H A at-mem run) known₃ (to₃ 𝓤 H A W at-mem run work (mach-Work work) n (vint w64 n)) (k-and-then ! (k-load ! (k-from ! (k-stop !)) (k-look ! 53 refl)) (k-and-then ! (k-load ! (k-from ! (k-stop !)) (k-look ! 45 refl)) (k-no-more !))) (λ w₃.
+        use1 W (later (k-some (λ (r₃ : Span). (‵ ftrue ⊛ ‵ (Span-type.the-row .own r₃ (w₃ ∷ []))) ⊛ raw (ensured 𝓤 H A callee₃.ended (callee₃.clauses 𝓤 H A at-mem run) tt (args₃ 𝓤 H A W at-mem run work (mach-Work work) n (vint w64 n)) tt r₃)))) (id⊢ 𝓤 _) $ k-await ! tt $ k-pick ! (λ r₃.
+        k-split ! $ k-move ! (1 ∷ []) $
+        use1 W (raw (fact 𝓤 (Said₃ 𝓤 H A W at-mem run work n r₃))) (exE 𝓤 _ (λ ws. snd∗ 𝓤 (sem 𝓤 H A (lasts callee₃.ended tt (args₃ 𝓤 H A W at-mem run work (mach-Work work) n (vint w64 n)) ws)) (fact 𝓤 (Said₃ 𝓤 H A W at-mem run work n r₃)))) $
+        k-heard ! (Said₃ 𝓤 H A W at-mem run work n r₃) (λ f₃.
+        k-split ! $ k-move ! (1 ∷ []) $
+        k-peeks ! Span-type.the-row (Is Span-type.the-row) (shows 𝓤 H A Span-type.the-row) r₃ (w₃ ∷ []) (λ is₃.
+        k-land ! (k-from ! (k-stop !)) (k-init ! 34 refl (LL.lawful Span-type.the-type Span-laws.the-laws 𝓤 H A W .typed r₃ _ is₃ .0)) $
+        k-drop ! $
+        k-drop ! $
+        use0 W (raw ((Callee₄ 𝓤 H A at-mem run) .pre (to₄ 𝓤 H A W at-mem run work (mach-Work work) n (vint w64 n)))) (asks₄ 𝓤 H A W at-mem run work (mach-Work work) n (vint w64 n) is-work (refl, n-fits) (the-end-asks size work list store page area tickets n req)) $
+        stands W (_ ∷ _ ∷ _ ∷ _ ∷ _ ∷ _ ∷ _ ∷ _ ∷ _ ∷ _ ∷ _ ∷ []) (none ∷ has _ ∷ has _ ∷ has _ ∷ has _ ∷ has _ ∷ has _ ∷ has _ ∷ has _ ∷ has _ ∷ has _ ∷ has _ ∷ none ∷ none ∷ has _ ∷ has _ ∷ has _ ∷ has _ ∷ has _ ∷ []) $
+        k-calls-at ! (fmOf 𝓤 H (W .laws) 𝓣) (Callee₄ 𝓤 H A at-mem run) known₄ (to₄ 𝓤 H A W at-mem run work (mach-Work work) n (vint w64 n)) (k-and-then ! (k-load ! (k-from ! (k-stop !)) (k-look ! 53 refl)) (k-and-then ! (k-load ! (k-from ! (k-stop !)) (k-look ! 45 refl)) (k-no-more !))) (λ w₄.
+        use1 W (later (k-some (λ (r₄ : Cursor). (‵ ftrue ⊛ ‵ (Cursor-type.the-row .own r₄ (w₄ ∷ []))) ⊛ raw (ensured 𝓤 H A callee₄.ended (callee₄.clauses 𝓤 H A at-mem run) tt (args₄ 𝓤 H A W at-mem run work (mach-Work work) n (vint w64 n)) tt r₄)))) (id⊢ 𝓤 _) $ k-await ! tt $ k-pick ! (λ r₄.
+        k-split ! $ k-move ! (1 ∷ []) $
+        use1 W (raw (fact 𝓤 (Said₄ 𝓤 H A W at-mem run work n r₄))) (exE 𝓤 _ (λ ws. snd∗ 𝓤 (sem 𝓤 H A (lasts callee₄.ended tt (args₄ 𝓤 H A W at-mem run work (mach-Work work) n (vint w64 n)) ws)) (fact 𝓤 (Said₄ 𝓤 H A W at-mem run work n r₄)))) $
+        k-heard ! (Said₄ 𝓤 H A W at-mem run work n r₄) (λ f₄.
+        k-split ! $ k-move ! (1 ∷ []) $
+        k-peeks ! Cursor-type.the-row (Is Cursor-type.the-row) (shows 𝓤 H A Cursor-type.the-row) r₄ (w₄ ∷ []) (λ is₄.
+        k-land ! (k-from ! (k-stop !)) (k-init ! 32 refl (LL.lawful Cursor-type.the-type Cursor-laws.the-laws 𝓤 H A W .typed r₄ _ is₄ .0)) $
+        k-drop ! $
+        k-drop ! $
         k-assigns ! (k-addr ! (k-from ! (k-fld ! refl (k-hop ! (k-look-in ! 42 (k-sub ! 0 refl (k-whole !))) (k-stop !))))) (k-from ! (k-stop !)) (k-init ! 16 refl (tt, tt)) $
         k-assigns ! (k-agg ! (k-and-then ! (k-load ! (k-from ! (k-stop !)) (k-look ! 16 refl)) (k-and-then ! (k-load ! (k-from ! (k-fld ! refl (k-stop !))) (k-look-in ! 42 (k-sub ! 1 refl (k-whole !)))) (k-no-more !)))) (k-from ! (k-stop !)) (k-init ! 14 refl (tt, (tt, (record { fits = room-area .0 }, tt)))) $
         k-assigns ! (k-addr ! (k-from ! (k-fld ! refl (k-hop ! (k-look-in ! 40 (k-sub ! 0 refl (k-whole !))) (k-stop !))))) (k-from ! (k-stop !)) (k-init ! 12 refl (tt, tt)) $
@@ -404,18 +404,18 @@ module _ {M : Type 1} (𝓤 : URA M) (H : Heap 𝓤) (A : Atoms 𝓤) (W : Given
         use1 W (‵ (Own-page page) ⊛ ‵ (Own-page page)) (shr-slice-copy 𝓤 H A W (named 2) κ₂ u8 .twice (ref-page page) (sv-page ∷ [])) $ k-split ! $
         k-lft-new ! tt (λ ν-area₅.
         k-move ! (9 ∷ 10 ∷ []) $
-        use2 W (later (k-some (λ (δ : GName). ‵ (MutSlice (named 0) (ν-area₅ ∷ []) u8 .own (record { ptr = (b-area, o-area); name = δ; now = ((zs₃ .1 .1 .1 .1 .1 .0)) }) (sv-area ∷ [])) ⊛ ‵ (LentAgain u8 κ₃ (ν-area₅ ∷ []) q₃ γ-area b-area o-area δ ((zs₃ .1 .1 .1 .1 .1 .0)))))) (lends-again-at u8 κ₃ (ν-area₅ ∷ []) q₃ γ-area b-area o-area 𝓤 H A W (named 3) (named 0) ((zs₃ .1 .1 .1 .1 .1 .0)) (length area) len-area₃) $ k-await ! tt $ k-pick ! (λ δ-area₅. k-split ! $
+        use2 W (later (k-some (λ (δ : GName). ‵ (MutSlice (named 0) (ν-area₅ ∷ []) u8 .own (record { ptr = (b-area, o-area); name = δ; now = ((zs₁ .1 .1 .1 .1 .1 .0)) }) (sv-area ∷ [])) ⊛ ‵ (LentAgain u8 κ₃ (ν-area₅ ∷ []) q₃ γ-area b-area o-area δ ((zs₁ .1 .1 .1 .1 .1 .0)))))) (lends-again-at u8 κ₃ (ν-area₅ ∷ []) q₃ γ-area b-area o-area 𝓤 H A W (named 3) (named 0) ((zs₁ .1 .1 .1 .1 .1 .0)) (length area) len-area₁) $ k-await ! tt $ k-pick ! (λ δ-area₅. k-split ! $
         k-lft-new ! tt (λ ν-tickets₅.
         k-move ! (10 ∷ 11 ∷ []) $
-        use2 W (later (k-some (λ (δ : GName). ‵ (MutSlice (named 0) (ν-tickets₅ ∷ []) u8 .own (record { ptr = (b-tickets, o-tickets); name = δ; now = ((zs₃ .1 .1 .1 .1 .1 .1 .0)) }) (sv-tickets ∷ [])) ⊛ ‵ (LentAgain u8 κ₄ (ν-tickets₅ ∷ []) q₄ γ-tickets b-tickets o-tickets δ ((zs₃ .1 .1 .1 .1 .1 .1 .0)))))) (lends-again-at u8 κ₄ (ν-tickets₅ ∷ []) q₄ γ-tickets b-tickets o-tickets 𝓤 H A W (named 4) (named 0) ((zs₃ .1 .1 .1 .1 .1 .1 .0)) (length tickets) len-tickets₃) $ k-await ! tt $ k-pick ! (λ δ-tickets₅. k-split ! $
+        use2 W (later (k-some (λ (δ : GName). ‵ (MutSlice (named 0) (ν-tickets₅ ∷ []) u8 .own (record { ptr = (b-tickets, o-tickets); name = δ; now = ((zs₁ .1 .1 .1 .1 .1 .1 .0)) }) (sv-tickets ∷ [])) ⊛ ‵ (LentAgain u8 κ₄ (ν-tickets₅ ∷ []) q₄ γ-tickets b-tickets o-tickets δ ((zs₁ .1 .1 .1 .1 .1 .1 .0)))))) (lends-again-at u8 κ₄ (ν-tickets₅ ∷ []) q₄ γ-tickets b-tickets o-tickets 𝓤 H A W (named 4) (named 0) ((zs₁ .1 .1 .1 .1 .1 .1 .0)) (length tickets) len-tickets₁) $ k-await ! tt $ k-pick ! (λ δ-tickets₅. k-split ! $
         k-move ! (14 ∷ 13 ∷ 12 ∷ 5 ∷ 2 ∷ 10 ∷ 8 ∷ 6 ∷ 3 ∷ 0 ∷ []) $
-        k-group ! 10 $ use1 W (raw ((Callee₅ 𝓤 H A at-mem run) .pre (to₅ 𝓤 H A W at-mem run κ₀ q₀ κ₁ q₁ κ₂ q₂ (ν-area₅ ∷ []) fullShare (ν-tickets₅ ∷ []) fullShare b-list o-list γ-list list (length list) b-store o-store γ-store store (length store) b-page o-page γ-page page (length page) r₁ w₁ r₃ (mach-Progress r₃) (r₃ .left) (mach-Gauge ((r₃ .left))) r₂ w₂ work (mach-Work work) b-area o-area δ-area₅ ((zs₃ .1 .1 .1 .1 .1 .0)) (length area) b-tickets o-tickets δ-tickets₅ ((zs₃ .1 .1 .1 .1 .1 .1 .0)) (length tickets) size (vint w64 size)))) (asks₅ 𝓤 H A W at-mem run κ₀ q₀ κ₁ q₁ κ₂ q₂ (ν-area₅ ∷ []) fullShare (ν-tickets₅ ∷ []) fullShare b-list o-list γ-list list (length list) b-store o-store γ-store store (length store) b-page o-page γ-page page (length page) r₁ w₁ r₃ (mach-Progress r₃) (r₃ .left) (mach-Gauge ((r₃ .left))) r₂ w₂ work (mach-Work work) b-area o-area δ-area₅ ((zs₃ .1 .1 .1 .1 .1 .0)) (length area) b-tickets o-tickets δ-tickets₅ ((zs₃ .1 .1 .1 .1 .1 .1 .0)) (length tickets) size (vint w64 size) is₁ (subst (λ (u : Val). Is Progress-type.the-row r₃ (u ∷ [])) (ap only ((LL.tells Progress-type.the-type Progress-laws.the-laws) r₃ _ is₃)) is₃) (LL.owed Progress-type.the-type Progress-laws.the-laws r₃ _ (subst (λ (u : Val). Is Progress-type.the-row r₃ (u ∷ [])) (ap only ((LL.tells Progress-type.the-type Progress-laws.the-laws) r₃ _ is₃)) is₃) .1 .0) is₂ is-work (refl, size-fits) (the-last-can-be-given size work list store page area tickets n req r₃ area-exit₃ tickets-exit₃ f₃ r₄ f₄ (held r₄ yes) r₁ f₁ r₂ f₂)) $
+        k-group ! 10 $ use1 W (raw ((Callee₅ 𝓤 H A at-mem run) .pre (to₅ 𝓤 H A W at-mem run κ₀ q₀ κ₁ q₁ κ₂ q₂ (ν-area₅ ∷ []) fullShare (ν-tickets₅ ∷ []) fullShare b-list o-list γ-list list (length list) b-store o-store γ-store store (length store) b-page o-page γ-page page (length page) r₃ w₃ r₁ (mach-Progress r₁) (r₁ .left) (mach-Gauge ((r₁ .left))) r₄ w₄ work (mach-Work work) b-area o-area δ-area₅ ((zs₁ .1 .1 .1 .1 .1 .0)) (length area) b-tickets o-tickets δ-tickets₅ ((zs₁ .1 .1 .1 .1 .1 .1 .0)) (length tickets) size (vint w64 size)))) (asks₅ 𝓤 H A W at-mem run κ₀ q₀ κ₁ q₁ κ₂ q₂ (ν-area₅ ∷ []) fullShare (ν-tickets₅ ∷ []) fullShare b-list o-list γ-list list (length list) b-store o-store γ-store store (length store) b-page o-page γ-page page (length page) r₃ w₃ r₁ (mach-Progress r₁) (r₁ .left) (mach-Gauge ((r₁ .left))) r₄ w₄ work (mach-Work work) b-area o-area δ-area₅ ((zs₁ .1 .1 .1 .1 .1 .0)) (length area) b-tickets o-tickets δ-tickets₅ ((zs₁ .1 .1 .1 .1 .1 .1 .0)) (length tickets) size (vint w64 size) is₃ (subst (λ (u : Val). Is Progress-type.the-row r₁ (u ∷ [])) (ap only ((LL.tells Progress-type.the-type Progress-laws.the-laws) r₁ _ is₁)) is₁) (LL.owed Progress-type.the-type Progress-laws.the-laws r₁ _ (subst (λ (u : Val). Is Progress-type.the-row r₁ (u ∷ [])) (ap only ((LL.tells Progress-type.the-type Progress-laws.the-laws) r₁ _ is₁)) is₁) .1 .0) is₄ is-work (refl, size-fits) (the-last-can-be-given size work list store page area tickets n req r₁ area-exit₁ tickets-exit₁ f₁ r₂ f₂ (held r₂ yes) r₃ f₃ r₄ f₄)) $
         stands W (_ ∷ _ ∷ _ ∷ _ ∷ _ ∷ _ ∷ []) (none ∷ has _ ∷ has _ ∷ has _ ∷ has _ ∷ has _ ∷ has _ ∷ has _ ∷ has _ ∷ has _ ∷ has _ ∷ has _ ∷ has _ ∷ none ∷ has _ ∷ has _ ∷ has _ ∷ has _ ∷ has _ ∷ has _ ∷ has _ ∷ has _ ∷ has _ ∷ []) $
-        k-calls-at ! (fmOf 𝓤 H (W .laws) 𝓣) (Callee₅ 𝓤 H A at-mem run) known₅ (to₅ 𝓤 H A W at-mem run κ₀ q₀ κ₁ q₁ κ₂ q₂ (ν-area₅ ∷ []) fullShare (ν-tickets₅ ∷ []) fullShare b-list o-list γ-list list (length list) b-store o-store γ-store store (length store) b-page o-page γ-page page (length page) r₁ w₁ r₃ (mach-Progress r₃) (r₃ .left) (mach-Gauge ((r₃ .left))) r₂ w₂ work (mach-Work work) b-area o-area δ-area₅ ((zs₃ .1 .1 .1 .1 .1 .0)) (length area) b-tickets o-tickets δ-tickets₅ ((zs₃ .1 .1 .1 .1 .1 .1 .0)) (length tickets) size (vint w64 size)) (k-and-then ! (k-load ! (k-from ! (k-stop !)) (k-look ! 46 refl)) (k-and-then ! (k-load ! (k-from ! (k-stop !)) (k-look ! 44 refl)) (k-and-then ! (k-load ! (k-from ! (k-stop !)) (k-look ! 42 refl)) (k-and-then ! (k-load ! (k-from ! (k-stop !)) (k-look ! 32 refl)) (k-and-then ! (k-load ! (k-from ! (k-stop !)) (k-look ! 28 refl)) (k-and-then ! (k-load ! (k-from ! (k-fld ! {d = 16} refl (k-stop !))) (k-look-in ! 28 (k-sub ! 1 {d = 16} refl (k-whole !)))) (k-and-then ! (k-load ! (k-from ! (k-stop !)) (k-look ! 30 refl)) (k-and-then ! (k-load ! (k-from ! (k-stop !)) (k-look ! 48 refl)) (k-and-then ! (k-load ! (k-from ! (k-stop !)) (k-look ! 10 refl)) (k-and-then ! (k-load ! (k-from ! (k-stop !)) (k-look ! 6 refl)) (k-and-then ! (k-load ! (k-from ! (k-stop !)) (k-look ! 34 refl)) (k-no-more !)))))))))))) (λ w₅.
-        use1 W (later (k-some (λ (r₅ : Progress). ((‵ (flft κ₀ q₀) ⊛ ‵ (flft κ₁ q₁) ⊛ ‵ (flft κ₂ q₂) ⊛ ‵ (flft (ν-area₅ ∷ []) fullShare) ⊛ ‵ (flft (ν-tickets₅ ∷ []) fullShare) ⊛ ‵ ftrue) ⊛ ‵ (Progress-type.the-row .own r₅ (w₅ ∷ []))) ⊛ raw (ensured 𝓤 H A callee₅.ended (callee₅.clauses 𝓤 H A at-mem run) (κ₀, (κ₁, (κ₂, (ν-area₅ ∷ [], (ν-tickets₅ ∷ [], tt))))) (args₅ 𝓤 H A W at-mem run κ₀ q₀ κ₁ q₁ κ₂ q₂ (ν-area₅ ∷ []) fullShare (ν-tickets₅ ∷ []) fullShare b-list o-list γ-list list (length list) b-store o-store γ-store store (length store) b-page o-page γ-page page (length page) r₁ w₁ r₃ (mach-Progress r₃) (r₃ .left) (mach-Gauge ((r₃ .left))) r₂ w₂ work (mach-Work work) b-area o-area δ-area₅ ((zs₃ .1 .1 .1 .1 .1 .0)) (length area) b-tickets o-tickets δ-tickets₅ ((zs₃ .1 .1 .1 .1 .1 .1 .0)) (length tickets) size (vint w64 size)) tt r₅)))) (id⊢ 𝓤 _) $ k-await ! tt $ k-pick ! (λ r₅.
+        k-calls-at ! (fmOf 𝓤 H (W .laws) 𝓣) (Callee₅ 𝓤 H A at-mem run) known₅ (to₅ 𝓤 H A W at-mem run κ₀ q₀ κ₁ q₁ κ₂ q₂ (ν-area₅ ∷ []) fullShare (ν-tickets₅ ∷ []) fullShare b-list o-list γ-list list (length list) b-store o-store γ-store store (length store) b-page o-page γ-page page (length page) r₃ w₃ r₁ (mach-Progress r₁) (r₁ .left) (mach-Gauge ((r₁ .left))) r₄ w₄ work (mach-Work work) b-area o-area δ-area₅ ((zs₁ .1 .1 .1 .1 .1 .0)) (length area) b-tickets o-tickets δ-tickets₅ ((zs₁ .1 .1 .1 .1 .1 .1 .0)) (length tickets) size (vint w64 size)) (k-and-then ! (k-load ! (k-from ! (k-stop !)) (k-look ! 46 refl)) (k-and-then ! (k-load ! (k-from ! (k-stop !)) (k-look ! 44 refl)) (k-and-then ! (k-load ! (k-from ! (k-stop !)) (k-look ! 42 refl)) (k-and-then ! (k-load ! (k-from ! (k-stop !)) (k-look ! 28 refl)) (k-and-then ! (k-load ! (k-from ! (k-stop !)) (k-look ! 32 refl)) (k-and-then ! (k-load ! (k-from ! (k-fld ! {d = 16} refl (k-stop !))) (k-look-in ! 32 (k-sub ! 1 {d = 16} refl (k-whole !)))) (k-and-then ! (k-load ! (k-from ! (k-stop !)) (k-look ! 26 refl)) (k-and-then ! (k-load ! (k-from ! (k-stop !)) (k-look ! 48 refl)) (k-and-then ! (k-load ! (k-from ! (k-stop !)) (k-look ! 10 refl)) (k-and-then ! (k-load ! (k-from ! (k-stop !)) (k-look ! 6 refl)) (k-and-then ! (k-load ! (k-from ! (k-stop !)) (k-look ! 34 refl)) (k-no-more !)))))))))))) (λ w₅.
+        use1 W (later (k-some (λ (r₅ : Progress). ((‵ (flft κ₀ q₀) ⊛ ‵ (flft κ₁ q₁) ⊛ ‵ (flft κ₂ q₂) ⊛ ‵ (flft (ν-area₅ ∷ []) fullShare) ⊛ ‵ (flft (ν-tickets₅ ∷ []) fullShare) ⊛ ‵ ftrue) ⊛ ‵ (Progress-type.the-row .own r₅ (w₅ ∷ []))) ⊛ raw (ensured 𝓤 H A callee₅.ended (callee₅.clauses 𝓤 H A at-mem run) (κ₀, (κ₁, (κ₂, (ν-area₅ ∷ [], (ν-tickets₅ ∷ [], tt))))) (args₅ 𝓤 H A W at-mem run κ₀ q₀ κ₁ q₁ κ₂ q₂ (ν-area₅ ∷ []) fullShare (ν-tickets₅ ∷ []) fullShare b-list o-list γ-list list (length list) b-store o-store γ-store store (length store) b-page o-page γ-page page (length page) r₃ w₃ r₁ (mach-Progress r₁) (r₁ .left) (mach-Gauge ((r₁ .left))) r₄ w₄ work (mach-Work work) b-area o-area δ-area₅ ((zs₁ .1 .1 .1 .1 .1 .0)) (length area) b-tickets o-tickets δ-tickets₅ ((zs₁ .1 .1 .1 .1 .1 .1 .0)) (length tickets) size (vint w64 size)) tt r₅)))) (id⊢ 𝓤 _) $ k-await ! tt $ k-pick ! (λ r₅.
         k-split ! $ k-move ! (1 ∷ []) $
-        use1 W (k-some (λ (us : Unit {0} × (Unit {0} × (Unit {0} × (Unit {0} × (Unit {0} × (Unit {0} × (Unit {0} × (Unit {0} × (List ℕ × (List ℕ × (Unit {0} × Unit {0}))))))))))). ‵ (lasts callee₅.ended (κ₀, (κ₁, (κ₂, (ν-area₅ ∷ [], (ν-tickets₅ ∷ [], tt))))) (args₅ 𝓤 H A W at-mem run κ₀ q₀ κ₁ q₁ κ₂ q₂ (ν-area₅ ∷ []) fullShare (ν-tickets₅ ∷ []) fullShare b-list o-list γ-list list (length list) b-store o-store γ-store store (length store) b-page o-page γ-page page (length page) r₁ w₁ r₃ (mach-Progress r₃) (r₃ .left) (mach-Gauge ((r₃ .left))) r₂ w₂ work (mach-Work work) b-area o-area δ-area₅ ((zs₃ .1 .1 .1 .1 .1 .0)) (length area) b-tickets o-tickets δ-tickets₅ ((zs₃ .1 .1 .1 .1 .1 .1 .0)) (length tickets) size (vint w64 size)) us) ⊛ raw (fact 𝓤 (Said₅ 𝓤 H A W at-mem run list store page r₁ r₃ (r₃ .left) r₂ work (zs₃ .1 .1 .1 .1 .1 .0) (zs₃ .1 .1 .1 .1 .1 .1 .0) size r₅ (us .1 .1 .1 .1 .1 .1 .1 .1 .0) (us .1 .1 .1 .1 .1 .1 .1 .1 .1 .0))))) (id⊢ 𝓤 _) $ k-pick ! (λ zs₅. k-split ! $ k-move ! (1 ∷ []) $
-        k-heard ! (Said₅ 𝓤 H A W at-mem run list store page r₁ r₃ (r₃ .left) r₂ work (zs₃ .1 .1 .1 .1 .1 .0) (zs₃ .1 .1 .1 .1 .1 .1 .0) size r₅ (zs₅ .1 .1 .1 .1 .1 .1 .1 .1 .0) (zs₅ .1 .1 .1 .1 .1 .1 .1 .1 .1 .0)) (λ f₅.
+        use1 W (k-some (λ (us : Unit {0} × (Unit {0} × (Unit {0} × (Unit {0} × (Unit {0} × (Unit {0} × (Unit {0} × (Unit {0} × (List ℕ × (List ℕ × (Unit {0} × Unit {0}))))))))))). ‵ (lasts callee₅.ended (κ₀, (κ₁, (κ₂, (ν-area₅ ∷ [], (ν-tickets₅ ∷ [], tt))))) (args₅ 𝓤 H A W at-mem run κ₀ q₀ κ₁ q₁ κ₂ q₂ (ν-area₅ ∷ []) fullShare (ν-tickets₅ ∷ []) fullShare b-list o-list γ-list list (length list) b-store o-store γ-store store (length store) b-page o-page γ-page page (length page) r₃ w₃ r₁ (mach-Progress r₁) (r₁ .left) (mach-Gauge ((r₁ .left))) r₄ w₄ work (mach-Work work) b-area o-area δ-area₅ ((zs₁ .1 .1 .1 .1 .1 .0)) (length area) b-tickets o-tickets δ-tickets₅ ((zs₁ .1 .1 .1 .1 .1 .1 .0)) (length tickets) size (vint w64 size)) us) ⊛ raw (fact 𝓤 (Said₅ 𝓤 H A W at-mem run list store page r₃ r₁ (r₁ .left) r₄ work (zs₁ .1 .1 .1 .1 .1 .0) (zs₁ .1 .1 .1 .1 .1 .1 .0) size r₅ (us .1 .1 .1 .1 .1 .1 .1 .1 .0) (us .1 .1 .1 .1 .1 .1 .1 .1 .1 .0))))) (id⊢ 𝓤 _) $ k-pick ! (λ zs₅. k-split ! $ k-move ! (1 ∷ []) $
+        k-heard ! (Said₅ 𝓤 H A W at-mem run list store page r₃ r₁ (r₁ .left) r₄ work (zs₁ .1 .1 .1 .1 .1 .0) (zs₁ .1 .1 .1 .1 .1 .1 .0) size r₅ (zs₅ .1 .1 .1 .1 .1 .1 .1 .1 .0) (zs₅ .1 .1 .1 .1 .1 .1 .1 .1 .1 .0)) (λ f₅.
         let area-exit₅ = zs₅ .1 .1 .1 .1 .1 .1 .1 .1 .0 in let tickets-exit₅ = zs₅ .1 .1 .1 .1 .1 .1 .1 .1 .1 .0 in
         k-fsplit ! $ k-drop ! $
         k-fsplit ! $ k-drop ! $
@@ -442,26 +442,26 @@ module _ {M : Type 1} (𝓤 : URA M) (H : Heap 𝓤) (A : Atoms 𝓤) (W : Given
         k-move ! (1 ∷ []) $
         k-lft-end ! tt $
         k-move ! (0 ∷ 8 ∷ 6 ∷ []) $
-        use3 W (later (‵ (Own-area (zs₅ .1 .1 .1 .1 .1 .1 .1 .1 .0)) ⊛ ‵ (flft κ₃ q₃))) (comes-back-at u8 κ₃ (ν-area₅ ∷ []) q₃ γ-area b-area o-area 𝓤 H A W (named 3) (named 0) ((zs₃ .1 .1 .1 .1 .1 .0)) (length area) len-area₃ δ-area₅ (zs₅ .1 .1 .1 .1 .1 .1 .1 .1 .0) room-area (len-area₅ ∙ len-area₃)) $ k-await ! tt $ k-split ! $
+        use3 W (later (‵ (Own-area (zs₅ .1 .1 .1 .1 .1 .1 .1 .1 .0)) ⊛ ‵ (flft κ₃ q₃))) (comes-back-at u8 κ₃ (ν-area₅ ∷ []) q₃ γ-area b-area o-area 𝓤 H A W (named 3) (named 0) ((zs₁ .1 .1 .1 .1 .1 .0)) (length area) len-area₁ δ-area₅ (zs₅ .1 .1 .1 .1 .1 .1 .1 .1 .0) room-area (len-area₅ ∙ len-area₁)) $ k-await ! tt $ k-split ! $
         k-move ! (2 ∷ []) $
         k-lft-end ! tt $
         k-move ! (0 ∷ 7 ∷ 6 ∷ []) $
-        use3 W (later (‵ (Own-tickets (zs₅ .1 .1 .1 .1 .1 .1 .1 .1 .1 .0)) ⊛ ‵ (flft κ₄ q₄))) (comes-back-at u8 κ₄ (ν-tickets₅ ∷ []) q₄ γ-tickets b-tickets o-tickets 𝓤 H A W (named 4) (named 0) ((zs₃ .1 .1 .1 .1 .1 .1 .0)) (length tickets) len-tickets₃ δ-tickets₅ (zs₅ .1 .1 .1 .1 .1 .1 .1 .1 .1 .0) room-tickets (len-tickets₅ ∙ len-tickets₃)) $ k-await ! tt $ k-split ! $
-        k-assigns-last ! (k-of-opd ! (k-load ! (k-from ! (k-stop !)) (k-look ! 28 refl))) (k-from ! (k-stop !)) (k-store ! 32 refl (LL.lawful Progress-type.the-type Progress-laws.the-laws 𝓤 H A W .typed r₅ _ is₅ .0)) $
-        k-exec ! (𝓣 .C) (𝓣 .Λ) (En l₀ l₁ l₂ l₃ l₄ l₅ l₆ l₇ l₈ l₉ l₁₀ l₁₁ l₁₂ l₁₃ l₁₄ l₁₅ l₁₆ l₁₇ l₁₈ l₁₉ l₂₀ l₂₁ l₂₂) piece.t-11 (atRet (En l₀ l₁ l₂ l₃ l₄ l₅ l₆ l₇ l₈ l₉ l₁₀ l₁₁ l₁₂ l₁₃ l₁₄ l₁₅ l₁₆ l₁₇ l₁₈ l₁₉ l₂₀ l₂₁ l₂₂) Post) $
-        k-assigns ! (k-of-opd ! (k-load ! (k-from ! (k-stop !)) (k-look ! 32 refl))) (k-from ! (k-stop !)) (k-init ! 54 refl (LL.lawful Progress-type.the-type Progress-laws.the-laws 𝓤 H A W .typed r₅ _ is₅ .0)) $
+        use3 W (later (‵ (Own-tickets (zs₅ .1 .1 .1 .1 .1 .1 .1 .1 .1 .0)) ⊛ ‵ (flft κ₄ q₄))) (comes-back-at u8 κ₄ (ν-tickets₅ ∷ []) q₄ γ-tickets b-tickets o-tickets 𝓤 H A W (named 4) (named 0) ((zs₁ .1 .1 .1 .1 .1 .1 .0)) (length tickets) len-tickets₁ δ-tickets₅ (zs₅ .1 .1 .1 .1 .1 .1 .1 .1 .1 .0) room-tickets (len-tickets₅ ∙ len-tickets₁)) $ k-await ! tt $ k-split ! $
+        k-assigns-last ! (k-of-opd ! (k-load ! (k-from ! (k-stop !)) (k-look ! 28 refl))) (k-from ! (k-stop !)) (k-store ! 36 refl (LL.lawful Progress-type.the-type Progress-laws.the-laws 𝓤 H A W .typed r₅ _ is₅ .0)) $
+        k-exec ! (𝓣 .C) (𝓣 .Λ) (En l₀ l₁ l₂ l₃ l₄ l₅ l₆ l₇ l₈ l₉ l₁₀ l₁₁ l₁₂ l₁₃ l₁₄ l₁₅ l₁₆ l₁₇ l₁₈ l₁₉ l₂₀ l₂₁ l₂₂) piece.t-9 (atRet (En l₀ l₁ l₂ l₃ l₄ l₅ l₆ l₇ l₈ l₉ l₁₀ l₁₁ l₁₂ l₁₃ l₁₄ l₁₅ l₁₆ l₁₇ l₁₈ l₁₉ l₂₀ l₂₁ l₂₂) Post) $
+        k-assigns ! (k-of-opd ! (k-load ! (k-from ! (k-stop !)) (k-look ! 36 refl))) (k-from ! (k-stop !)) (k-init ! 54 refl (LL.lawful Progress-type.the-type Progress-laws.the-laws 𝓤 H A W .typed r₅ _ is₅ .0)) $
         k-returns ! (k-look ! 54 refl) $ all-freed W (_ ∷ _ ∷ _ ∷ _ ∷ _ ∷ _ ∷ _ ∷ _ ∷ _ ∷ _ ∷ []) (has _ ∷ has _ ∷ has _ ∷ has _ ∷ has _ ∷ has _ ∷ has _ ∷ has _ ∷ has _ ∷ has _ ∷ has _ ∷ has _ ∷ has _ ∷ has _ ∷ has _ ∷ has _ ∷ has _ ∷ has _ ∷ has _ ∷ has _ ∷ has _ ∷ has _ ∷ has _ ∷ []) $
         k-keep ! (6 ∷ 5 ∷ 4 ∷ 3 ∷ 1 ∷ 9 ∷ 8 ∷ 7 ∷ 2 ∷ 0 ∷ []) $
-        k-by ! (the-exit r₅ w₅ is₅ ((zs₅ .1 .1 .1 .1 .1 .1 .1 .1 .0)) (len-area₅ ∙ len-area₃) ((zs₅ .1 .1 .1 .1 .1 .1 .1 .1 .1 .0)) (len-tickets₅ ∙ len-tickets₃) (the-last-is-given size work list store page area tickets n req r₃ area-exit₃ tickets-exit₃ f₃ r₄ f₄ (held r₄ yes) r₁ f₁ r₂ f₂ r₅ area-exit₅ tickets-exit₅ f₅))))))))))))))
+        k-by ! (the-exit r₅ w₅ is₅ ((zs₅ .1 .1 .1 .1 .1 .1 .1 .1 .0)) (len-area₅ ∙ len-area₁) ((zs₅ .1 .1 .1 .1 .1 .1 .1 .1 .1 .0)) (len-tickets₅ ∙ len-tickets₁) (the-last-is-given size work list store page area tickets n req r₁ area-exit₁ tickets-exit₁ f₁ r₂ f₂ (held r₂ yes) r₃ f₃ r₄ f₄ r₅ area-exit₅ tickets-exit₅ f₅))))))))))))))))))))))
         (λ no.
         k-skips ! $
-        k-exec ! (𝓣 .C) (𝓣 .Λ) (En l₀ l₁ l₂ l₃ l₄ l₅ l₆ l₇ l₈ l₉ l₁₀ l₁₁ l₁₂ l₁₃ l₁₄ l₁₅ l₁₆ l₁₇ l₁₈ l₁₉ l₂₀ l₂₁ l₂₂) piece.t-11 (atRet (En l₀ l₁ l₂ l₃ l₄ l₅ l₆ l₇ l₈ l₉ l₁₀ l₁₁ l₁₂ l₁₃ l₁₄ l₁₅ l₁₆ l₁₇ l₁₈ l₁₉ l₂₀ l₂₁ l₂₂) Post) $
-        k-assigns ! (k-of-opd ! (k-load ! (k-from ! (k-stop !)) (k-look ! 32 refl))) (k-from ! (k-stop !)) (k-init ! 54 refl (LL.lawful Progress-type.the-type Progress-laws.the-laws 𝓤 H A W .typed r₃ _ (subst (λ (u : Val). Is Progress-type.the-row r₃ (u ∷ [])) (ap only ((LL.tells Progress-type.the-type Progress-laws.the-laws) r₃ _ is₃)) is₃) .0)) $
-        k-returns ! (k-look ! 54 refl) $ all-freed W (_ ∷ _ ∷ _ ∷ _ ∷ _ ∷ _ ∷ _ ∷ _ ∷ _ ∷ _ ∷ []) (has _ ∷ has _ ∷ has _ ∷ has _ ∷ has _ ∷ has _ ∷ has _ ∷ has _ ∷ has _ ∷ has _ ∷ has _ ∷ has _ ∷ has _ ∷ none ∷ has _ ∷ has _ ∷ has _ ∷ has _ ∷ has _ ∷ []) $
+        k-exec ! (𝓣 .C) (𝓣 .Λ) (En l₀ l₁ l₂ l₃ l₄ l₅ l₆ l₇ l₈ l₉ l₁₀ l₁₁ l₁₂ l₁₃ l₁₄ l₁₅ l₁₆ l₁₇ l₁₈ l₁₉ l₂₀ l₂₁ l₂₂) piece.t-9 (atRet (En l₀ l₁ l₂ l₃ l₄ l₅ l₆ l₇ l₈ l₉ l₁₀ l₁₁ l₁₂ l₁₃ l₁₄ l₁₅ l₁₆ l₁₇ l₁₈ l₁₉ l₂₀ l₂₁ l₂₂) Post) $
+        k-assigns ! (k-of-opd ! (k-load ! (k-from ! (k-stop !)) (k-look ! 36 refl))) (k-from ! (k-stop !)) (k-init ! 54 refl (LL.lawful Progress-type.the-type Progress-laws.the-laws 𝓤 H A W .typed r₁ _ (subst (λ (u : Val). Is Progress-type.the-row r₁ (u ∷ [])) (ap only ((LL.tells Progress-type.the-type Progress-laws.the-laws) r₁ _ is₁)) is₁) .0)) $
+        k-returns ! (k-look ! 54 refl) $ all-freed W (_ ∷ _ ∷ _ ∷ _ ∷ _ ∷ _ ∷ _ ∷ _ ∷ _ ∷ _ ∷ []) (has _ ∷ has _ ∷ has _ ∷ has _ ∷ has _ ∷ has _ ∷ has _ ∷ has _ ∷ has _ ∷ has _ ∷ has _ ∷ none ∷ none ∷ none ∷ has _ ∷ has _ ∷ has _ ∷ has _ ∷ has _ ∷ []) $
         k-keep ! (6 ∷ 5 ∷ 4 ∷ 3 ∷ 1 ∷ 9 ∷ 8 ∷ 7 ∷ 2 ∷ 0 ∷ []) $
-        k-by ! (the-exit r₃ (mach-Progress r₃) (subst (λ (u : Val). Is Progress-type.the-row r₃ (u ∷ [])) (ap only ((LL.tells Progress-type.the-type Progress-laws.the-laws) r₃ _ is₃)) is₃) ((zs₃ .1 .1 .1 .1 .1 .0)) len-area₃ ((zs₃ .1 .1 .1 .1 .1 .1 .0)) len-tickets₃ (what-is-left-is-kept size work list store page area tickets n req r₃ area-exit₃ tickets-exit₃ f₃ r₄ f₄ (failed r₄ no))))))))))))))))))))))))))))))))))))))))))))))))))
+        k-by ! (the-exit r₁ (mach-Progress r₁) (subst (λ (u : Val). Is Progress-type.the-row r₁ (u ∷ [])) (ap only ((LL.tells Progress-type.the-type Progress-laws.the-laws) r₁ _ is₁)) is₁) ((zs₁ .1 .1 .1 .1 .1 .0)) len-area₁ ((zs₁ .1 .1 .1 .1 .1 .1 .0)) len-tickets₁ (what-is-left-is-kept size work list store page area tickets n req r₁ area-exit₁ tickets-exit₁ f₁ r₂ f₂ (failed r₂ no))))))))))))))))))))))))))))))))))))))))))
 
-module _ {M : Type 1} (𝓤 : URA M) (H : Heap 𝓤) (A : Atoms 𝓤) (W : Given 𝓤 H A) (mem : Memory → SProp 𝓤) (run : Routine → Fun 𝓤) (𝓣 : Tables 𝓤 H) (known₁ : Triple 𝓤 (𝓣 .C #digest-leaves·span-by) (Callee₁ 𝓤 H A mem run)) (known₂ : Triple 𝓤 (𝓣 .C #digest-leaves·end-by) (Callee₂ 𝓤 H A mem run)) (known₃ : Triple 𝓤 (𝓣 .C #digest-leaves·cut-leaves) (Callee₃ 𝓤 H A mem run)) (known₄ : Triple 𝓤 (𝓣 .C #digest-leaves·is-last) (Callee₄ 𝓤 H A mem run)) (known₅ : Triple 𝓤 (𝓣 .C #digest-leaves·give-leaf) (Callee₅ 𝓤 H A mem run)) where
+module _ {M : Type 1} (𝓤 : URA M) (H : Heap 𝓤) (A : Atoms 𝓤) (W : Given 𝓤 H A) (mem : Memory → SProp 𝓤) (run : Routine → Fun 𝓤) (𝓣 : Tables 𝓤 H) (known₁ : Triple 𝓤 (𝓣 .C #digest-leaves·cut-leaves) (Callee₁ 𝓤 H A mem run)) (known₂ : Triple 𝓤 (𝓣 .C #digest-leaves·is-last) (Callee₂ 𝓤 H A mem run)) (known₃ : Triple 𝓤 (𝓣 .C #digest-leaves·span-by) (Callee₃ 𝓤 H A mem run)) (known₄ : Triple 𝓤 (𝓣 .C #digest-leaves·end-by) (Callee₄ 𝓤 H A mem run)) (known₅ : Triple 𝓤 (𝓣 .C #digest-give·give-leaf) (Callee₅ 𝓤 H A mem run)) where
   give-leaves-walks : Walks 𝓤 H A own.ended stayed (WpFn 𝓤 H (𝓣 .C) (𝓣 .Λ) code.function) (own.clauses 𝓤 H A mem run)
   give-leaves-walks = walked 𝓤 H A own.ended stayed (own.clauses 𝓤 H A mem run) (WpFn 𝓤 H (𝓣 .C) (𝓣 .Λ) code.function)
       (λ κs. (LL.vals Work-type.the-type Work-laws.the-laws, (slice-vals, (slice-vals, (slice-vals, (uint-vals w64, (slice-vals, (slice-vals, (uint-vals w64, tt))))))))) (λ κs. (LL.tells Work-type.the-type Work-laws.the-laws, (shr-slice-tells (named 0) (κs .0) Entry-type.the-row, (shr-slice-tells (named 1) (κs .1 .0) u8, (shr-slice-tells (named 2) (κs .1 .1 .0) u8, (uint-tells w64, (mut-slice-tells (named 3) (κs .1 .1 .1 .0) u8, (mut-slice-tells (named 4) (κs .1 .1 .1 .1 .0) u8, (uint-tells w64, tt)))))))))
@@ -477,8 +477,8 @@ give-leaves-spec 𝓤 H 𝓜 𝓖 𝓡 =
     entered 𝓤 H (tripleOf 𝓤 H (𝓖 .A) own.signature (own.spec 𝓤 H (𝓖 .A) (𝓜 .mem) (𝓡 .run)))
     (tables 𝓤 H 𝓜 𝓡 code.env .C) (tables 𝓤 H 𝓜 𝓡 code.env .Λ) own-key code.function (code.unfolded 𝓤 H 𝓜 𝓡)
     (give-leaves-meets 𝓤 H (𝓖 .A) (givenOf 𝓤 H 𝓜 𝓖) (𝓜 .mem) (𝓡 .run) (tablesOf 𝓤 H 𝓜 (tables 𝓤 H 𝓜 𝓡 code.env))
-    (cited 𝓤 H (Callee₁ 𝓤 H (𝓖 .A) (𝓜 .mem) (𝓡 .run)) 𝓜 𝓡 code.env #digest-leaves·span-by callee₁-def.routine code.calls-digest-leaves·span-by (callee₁-thm.met 𝓤 H 𝓜 𝓖 𝓡))
-    (cited 𝓤 H (Callee₂ 𝓤 H (𝓖 .A) (𝓜 .mem) (𝓡 .run)) 𝓜 𝓡 code.env #digest-leaves·end-by callee₂-def.routine code.calls-digest-leaves·end-by (callee₂-thm.met 𝓤 H 𝓜 𝓖 𝓡))
-    (cited 𝓤 H (Callee₃ 𝓤 H (𝓖 .A) (𝓜 .mem) (𝓡 .run)) 𝓜 𝓡 code.env #digest-leaves·cut-leaves callee₃-def.routine code.calls-digest-leaves·cut-leaves (callee₃-thm.met 𝓤 H 𝓜 𝓖 𝓡))
-    (cited 𝓤 H (Callee₄ 𝓤 H (𝓖 .A) (𝓜 .mem) (𝓡 .run)) 𝓜 𝓡 code.env #digest-leaves·is-last callee₄-def.routine code.calls-digest-leaves·is-last (callee₄-thm.met 𝓤 H 𝓜 𝓖 𝓡))
-    (cited 𝓤 H (Callee₅ 𝓤 H (𝓖 .A) (𝓜 .mem) (𝓡 .run)) 𝓜 𝓡 code.env #digest-leaves·give-leaf callee₅-def.routine code.calls-digest-leaves·give-leaf (callee₅-thm.met 𝓤 H 𝓜 𝓖 𝓡)))
+    (cited 𝓤 H (Callee₁ 𝓤 H (𝓖 .A) (𝓜 .mem) (𝓡 .run)) 𝓜 𝓡 code.env #digest-leaves·cut-leaves callee₁-def.routine code.calls-digest-leaves·cut-leaves (callee₁-thm.met 𝓤 H 𝓜 𝓖 𝓡))
+    (cited 𝓤 H (Callee₂ 𝓤 H (𝓖 .A) (𝓜 .mem) (𝓡 .run)) 𝓜 𝓡 code.env #digest-leaves·is-last callee₂-def.routine code.calls-digest-leaves·is-last (callee₂-thm.met 𝓤 H 𝓜 𝓖 𝓡))
+    (cited 𝓤 H (Callee₃ 𝓤 H (𝓖 .A) (𝓜 .mem) (𝓡 .run)) 𝓜 𝓡 code.env #digest-leaves·span-by callee₃-def.routine code.calls-digest-leaves·span-by (callee₃-thm.met 𝓤 H 𝓜 𝓖 𝓡))
+    (cited 𝓤 H (Callee₄ 𝓤 H (𝓖 .A) (𝓜 .mem) (𝓡 .run)) 𝓜 𝓡 code.env #digest-leaves·end-by callee₄-def.routine code.calls-digest-leaves·end-by (callee₄-thm.met 𝓤 H 𝓜 𝓖 𝓡))
+    (cited 𝓤 H (Callee₅ 𝓤 H (𝓖 .A) (𝓜 .mem) (𝓡 .run)) 𝓜 𝓡 code.env #digest-give·give-leaf callee₅-def.routine code.calls-digest-give·give-leaf (callee₅-thm.met 𝓤 H 𝓜 𝓖 𝓡)))

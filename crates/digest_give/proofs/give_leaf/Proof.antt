@@ -1,4 +1,4 @@
--- `digest_leaves::give_leaf` meets its contract: a walk of its MIR, written by tools/walkgen from walk.toml beside it. Don't edit it.
+-- `digest_give::give_leaf` meets its contract: a walk of its MIR, written by tools/walkgen from walk.toml beside it. Don't edit it.
 -- Assumes nothing.
 use mathlib.Core.Path.{_≡_, refl, sym, ap, subst}
 use mathlib.Core.Option.{none, some as has}
@@ -47,10 +47,10 @@ use Rattle.leaf_give.specs.Steps.{LeafThere, LeafGiven, moreThan, progressOf, T
 use Rattle.leaf_node.specs.Build.{build}
 use Rattle.digest_leaf.specs.Pushing.{recordsOn, LeafAsked}
 use Rattle.bit_ops.specs.Separate.{separateLeaves}
-use Rattle.leaf_node.specs.Page.{count, keyAt}
+use Rattle.leaf_node.specs.Page.{keyAt}
 use Rattle.leaf_model.specs.Work.{zeroKey}
 use Rattle.digest_leaf.specs.Keys.{keyBehind, KeyAsked}
-use Rattle.digest_leaves.proofs.OneLeaf.{a-page-asks, a-ticket-asks, a-leaf-off-the-list-is-given}
+use Rattle.digest_give.proofs.OneLeaf.{a-page-asks, a-ticket-asks, a-leaf-off-the-list-is-given}
 use denote.Struct.Laws as LL
 use Rattle.leaf_entries.proofs.Locals.{tyAt}
 use Rattle.leaf_entries.proofs.Freed.{all-freed, stands, sinks, cells}
@@ -84,15 +84,15 @@ use Rattle.leaf_entries.proofs.read as callee₂
 use Rattle.leaf_entries.proofs.read.Symbol as callee₂-def
 use Rattle.leaf_entries.proofs.read.Symbol.{name as #leaf-entries·read}
 use Rattle.leaf_entries.proofs.read.Met as callee₂-thm
-use Rattle.digest_leaves.proofs.ticket_leaf as callee₃
-use Rattle.digest_leaves.proofs.ticket_leaf.Symbol as callee₃-def
-use Rattle.digest_leaves.proofs.ticket_leaf.Symbol.{name as #digest-leaves·ticket-leaf}
-use Rattle.digest_leaves.proofs.ticket_leaf.Met as callee₃-thm
-use Rattle.digest_leaves.proofs.give_leaf.Key.{name as own-key}
-use Rattle.digest_leaves.proofs.give_leaf as own
-use Rattle.digest_leaves.proofs.give_leaf.Statement as stated
-use Rattle.digest_leaves.proofs.give_leaf.Code as code
-use Rattle.digest_leaves.proofs.give_leaf.Code.Mir as piece
+use Rattle.digest_give.proofs.ticket_leaf as callee₃
+use Rattle.digest_give.proofs.ticket_leaf.Symbol as callee₃-def
+use Rattle.digest_give.proofs.ticket_leaf.Symbol.{name as #digest-give·ticket-leaf}
+use Rattle.digest_give.proofs.ticket_leaf.Met as callee₃-thm
+use Rattle.digest_give.proofs.give_leaf.Key.{name as own-key}
+use Rattle.digest_give.proofs.give_leaf as own
+use Rattle.digest_give.proofs.give_leaf.Statement as stated
+use Rattle.digest_give.proofs.give_leaf.Code as code
+use Rattle.digest_give.proofs.give_leaf.Code.Mir as piece
 
 abbrev mach-Progress : Progress → Val
 mach-Progress z = only (LL.vals Progress-type.the-type Progress-laws.the-laws z)
@@ -231,7 +231,7 @@ module _ {M : Type 1} (𝓤 : URA M) (H : Heap 𝓤) (A : Atoms 𝓤) (W : Given
   the-exit r w is area-exit len-area tickets-exit len-tickets fact-of =
       qed W (‵ (flft κ₀ q₀) ∷ ‵ (flft κ₁ q₁) ∷ ‵ (flft κ₂ q₂) ∷ ‵ (flft κ₃ q₃) ∷ ‵ (flft κ₄ q₄) ∷ ‵ (Own-list list) ∷ ‵ (Own-store store) ∷ ‵ (Own-page page) ∷ ‵ (Own-area area-exit) ∷ ‵ (finally u8 γ-tickets tickets-exit) ∷ []) ∵ k-suffices ! _ (ends-at 𝓤 H A own.ended stayed (own.clauses 𝓤 H A at-mem run) W (((κ₀, (κ₁, (κ₂, (κ₃, (κ₄, tt))))), (q₀, (q₁, (q₂, (q₃, (q₄, tt))))), tt, the-args, the-vals), tt) w r (tt, (tt, (tt, (tt, (tt, (tt, (tt, (tt, (area-exit, (tickets-exit, (tt, tt))))))))))) (tt, (tt, (tt, (tt, (tt, (tt, (tt, (tt, (len-area, (len-tickets, (tt, tt)))))))))))) $ k-says ! fact-of $ k-nothing ! $ k-move ! (5 ∷ 0 ∷ []) $ k-join ! $ k-move ! (4 ∷ 0 ∷ []) $ k-join ! $ k-move ! (3 ∷ 0 ∷ []) $ k-join ! $ k-move ! (2 ∷ 0 ∷ []) $ k-join ! $ k-move ! (1 ∷ 0 ∷ []) $ k-join ! $ k-frame ! $ k-nothing ! $ k-owned ! usize (Is usize) (uint-makes 𝓤 H A W w64) size _ (refl, size-fits) $ k-fjoin ! $ k-move ! (5 ∷ 0 ∷ []) $ k-fjoin ! $ k-move ! (4 ∷ 0 ∷ []) $ k-fjoin ! $ k-owned ! Work-type.the-row (Is Work-type.the-row) (LL.makes Work-type.the-type Work-laws.the-plain 𝓤 H A) work _ is-work $ k-fjoin ! $ k-owned ! Cursor-type.the-row (Is Cursor-type.the-row) (LL.makes Cursor-type.the-type Cursor-laws.the-plain 𝓤 H A) at _ is-at $ k-fjoin ! $ k-owned ! Gauge-type.the-row (Is Gauge-type.the-row) (LL.makes Gauge-type.the-type Gauge-laws.the-plain 𝓤 H A) leaf _ is-leaf $ k-fjoin ! $ k-owned ! Progress-type.the-row (Is Progress-type.the-row) (LL.makes Progress-type.the-type Progress-laws.the-plain 𝓤 H A) p _ is-p $ k-fjoin ! $ k-owned ! Span-type.the-row (Is Span-type.the-row) (LL.makes Span-type.the-type Span-laws.the-plain 𝓤 H A) span _ is-span $ k-fjoin ! $ k-move ! (3 ∷ 0 ∷ []) $ k-fjoin ! $ k-move ! (2 ∷ 0 ∷ []) $ k-fjoin ! $ k-move ! (1 ∷ 0 ∷ []) $ k-fjoin ! $ k-owned ! Progress-type.the-row (Is Progress-type.the-row) (LL.makes Progress-type.the-type Progress-laws.the-plain 𝓤 H A) r _ is $ k-move ! (1 ∷ 0 ∷ []) $ k-done !
 
-  module _ (𝓣 : Tables 𝓤 H) (known₁ : Triple 𝓤 (𝓣 .C #digest-leaf·build-leaf) (Callee₁ 𝓤 H A at-mem run)) (known₂ : Triple 𝓤 (𝓣 .C #leaf-entries·read) (Callee₂ 𝓤 H A at-mem run)) (known₃ : Triple 𝓤 (𝓣 .C #digest-leaves·ticket-leaf) (Callee₃ 𝓤 H A at-mem run)) where
+  module _ (𝓣 : Tables 𝓤 H) (known₁ : Triple 𝓤 (𝓣 .C #digest-leaf·build-leaf) (Callee₁ 𝓤 H A at-mem run)) (known₂ : Triple 𝓤 (𝓣 .C #leaf-entries·read) (Callee₂ 𝓤 H A at-mem run)) (known₃ : Triple 𝓤 (𝓣 .C #digest-give·ticket-leaf) (Callee₃ 𝓤 H A at-mem run)) where
     walk : ent 𝓤 (onEntry 𝓤 H A own.signature (κ₀, (κ₁, (κ₂, (κ₃, (κ₄, tt))))) (q₀, (q₁, (q₂, (q₃, (q₄, tt))))) the-args the-vals) (WpFn 𝓤 H (𝓣 .C) (𝓣 .Λ) code.function (sv-list ∷ sv-store ∷ sv-page ∷ (mach-Span span) ∷ (mach-Progress p) ∷ (mach-Gauge leaf) ∷ (mach-Cursor at) ∷ (mach-Work work) ∷ sv-area ∷ sv-tickets ∷ (vint w64 size) ∷ []) Post)
     walk =
         qed W ((‵ (flft κ₀ q₀) ⊛ ‵ (flft κ₁ q₁) ⊛ ‵ (flft κ₂ q₂) ⊛ ‵ (flft κ₃ q₃) ⊛ ‵ (flft κ₄ q₄) ⊛ ‵ ftrue) ∷ ‵ (owns (ShrSlice (named 0) κ₀ Entry-type.the-row ∷ ShrSlice (named 1) κ₁ u8 ∷ ShrSlice (named 2) κ₂ u8 ∷ Span-type.the-row ∷ Progress-type.the-row ∷ Gauge-type.the-row ∷ Cursor-type.the-row ∷ Work-type.the-row ∷ MutSlice (named 3) κ₃ u8 ∷ MutSlice (named 4) κ₄ u8 ∷ usize ∷ []) the-args the-vals) ∷ []) ∵ k-enter ! (𝓣 .C) (𝓣 .Λ) code.function (sv-list ∷ sv-store ∷ sv-page ∷ (mach-Span span) ∷ (mach-Progress p) ∷ (mach-Gauge leaf) ∷ (mach-Cursor at) ∷ (mach-Work work) ∷ sv-area ∷ sv-tickets ∷ (vint w64 size) ∷ []) _ $
@@ -381,7 +381,7 @@ module _ {M : Type 1} (𝓤 : URA M) (H : Heap 𝓤) (A : Atoms 𝓤) (W : Given
         k-keep ! (6 ∷ 8 ∷ 3 ∷ 1 ∷ 2 ∷ 7 ∷ 9 ∷ 5 ∷ 0 ∷ 4 ∷ []) $
         k-by ! (the-exit r₃ w₃ is₃ ((putPart ((p .leaves) * size) ((((p .leaves) * size) + size) - ((p .leaves) * size)) area (zs₁ .1 .1 .1 .1 .1 .1 .0))) (put-len ((p .leaves) * size) ((((p .leaves) * size) + size) - ((p .leaves) * size)) area (zs₁ .1 .1 .1 .1 .1 .1 .0) len-d₁) ((zs₃ .1 .1 .1 .1 .1 .1 .1 .1 .0)) len-tickets₃ (a-leaf-off-the-list-is-given size list store page span p leaf at area tickets req r₂ f₂ d-exit₁ f₁ (cutoffOf work) r₃ tickets-exit₃ (f₃ .0) (f₃ .1)))))))))))))))))))))))))))))))))))))))))))))))))
 
-module _ {M : Type 1} (𝓤 : URA M) (H : Heap 𝓤) (A : Atoms 𝓤) (W : Given 𝓤 H A) (mem : Memory → SProp 𝓤) (run : Routine → Fun 𝓤) (𝓣 : Tables 𝓤 H) (known₁ : Triple 𝓤 (𝓣 .C #digest-leaf·build-leaf) (Callee₁ 𝓤 H A mem run)) (known₂ : Triple 𝓤 (𝓣 .C #leaf-entries·read) (Callee₂ 𝓤 H A mem run)) (known₃ : Triple 𝓤 (𝓣 .C #digest-leaves·ticket-leaf) (Callee₃ 𝓤 H A mem run)) where
+module _ {M : Type 1} (𝓤 : URA M) (H : Heap 𝓤) (A : Atoms 𝓤) (W : Given 𝓤 H A) (mem : Memory → SProp 𝓤) (run : Routine → Fun 𝓤) (𝓣 : Tables 𝓤 H) (known₁ : Triple 𝓤 (𝓣 .C #digest-leaf·build-leaf) (Callee₁ 𝓤 H A mem run)) (known₂ : Triple 𝓤 (𝓣 .C #leaf-entries·read) (Callee₂ 𝓤 H A mem run)) (known₃ : Triple 𝓤 (𝓣 .C #digest-give·ticket-leaf) (Callee₃ 𝓤 H A mem run)) where
   give-leaf-walks : Walks 𝓤 H A own.ended stayed (WpFn 𝓤 H (𝓣 .C) (𝓣 .Λ) code.function) (own.clauses 𝓤 H A mem run)
   give-leaf-walks = walked 𝓤 H A own.ended stayed (own.clauses 𝓤 H A mem run) (WpFn 𝓤 H (𝓣 .C) (𝓣 .Λ) code.function)
       (λ κs. (slice-vals, (slice-vals, (slice-vals, (LL.vals Span-type.the-type Span-laws.the-laws, (LL.vals Progress-type.the-type Progress-laws.the-laws, (LL.vals Gauge-type.the-type Gauge-laws.the-laws, (LL.vals Cursor-type.the-type Cursor-laws.the-laws, (LL.vals Work-type.the-type Work-laws.the-laws, (slice-vals, (slice-vals, (uint-vals w64, tt)))))))))))) (λ κs. (shr-slice-tells (named 0) (κs .0) Entry-type.the-row, (shr-slice-tells (named 1) (κs .1 .0) u8, (shr-slice-tells (named 2) (κs .1 .1 .0) u8, (LL.tells Span-type.the-type Span-laws.the-laws, (LL.tells Progress-type.the-type Progress-laws.the-laws, (LL.tells Gauge-type.the-type Gauge-laws.the-laws, (LL.tells Cursor-type.the-type Cursor-laws.the-laws, (LL.tells Work-type.the-type Work-laws.the-laws, (mut-slice-tells (named 3) (κs .1 .1 .1 .0) u8, (mut-slice-tells (named 4) (κs .1 .1 .1 .1 .0) u8, (uint-tells w64, tt))))))))))))
@@ -399,4 +399,4 @@ give-leaf-spec 𝓤 H 𝓜 𝓖 𝓡 =
     (give-leaf-meets 𝓤 H (𝓖 .A) (givenOf 𝓤 H 𝓜 𝓖) (𝓜 .mem) (𝓡 .run) (tablesOf 𝓤 H 𝓜 (tables 𝓤 H 𝓜 𝓡 code.env))
     (cited 𝓤 H (Callee₁ 𝓤 H (𝓖 .A) (𝓜 .mem) (𝓡 .run)) 𝓜 𝓡 code.env #digest-leaf·build-leaf callee₁-def.routine code.calls-digest-leaf·build-leaf (callee₁-thm.met 𝓤 H 𝓜 𝓖 𝓡))
     (cited 𝓤 H (Callee₂ 𝓤 H (𝓖 .A) (𝓜 .mem) (𝓡 .run)) 𝓜 𝓡 code.env #leaf-entries·read callee₂-def.routine code.calls-leaf-entries·read (callee₂-thm.met 𝓤 H 𝓜 𝓖 𝓡))
-    (cited 𝓤 H (Callee₃ 𝓤 H (𝓖 .A) (𝓜 .mem) (𝓡 .run)) 𝓜 𝓡 code.env #digest-leaves·ticket-leaf callee₃-def.routine code.calls-digest-leaves·ticket-leaf (callee₃-thm.met 𝓤 H 𝓜 𝓖 𝓡)))
+    (cited 𝓤 H (Callee₃ 𝓤 H (𝓖 .A) (𝓜 .mem) (𝓡 .run)) 𝓜 𝓡 code.env #digest-give·ticket-leaf callee₃-def.routine code.calls-digest-give·ticket-leaf (callee₃-thm.met 𝓤 H 𝓜 𝓖 𝓡)))

@@ -1,9 +1,9 @@
--- `digest_leaves::ticket_leaf` meets its contract.
+-- `digest_give::ticket_leaf` meets its contract.
 -- Assumes nothing.
-use Rattle.digest_leaves.proofs.OneLeaf.{its-ticket-is-given}
+use Rattle.digest_give.proofs.OneLeaf.{its-ticket-is-given}
 use borrow.Author.Needs.{needs}
-use Rattle.digest_leaves.proofs.ticket_leaf.Statement.{statement}
-use Rattle.digest_leaves.proofs.ticket_leaf.Tie as tie
+use Rattle.digest_give.proofs.ticket_leaf.Statement.{statement}
+use Rattle.digest_give.proofs.ticket_leaf.Tie as tie
 
 key-of-requires : tie.Need-key-of-requires
 key-of-requires c κs = search needs

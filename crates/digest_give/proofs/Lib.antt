@@ -1,0 +1,2 @@
+-- Laws on plain values, for the functions' proofs.
+pub mod OneLeaf
