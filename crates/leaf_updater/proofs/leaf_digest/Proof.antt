@@ -39,29 +39,29 @@ use denote.Triple.Table.{entered, cited}
 use denote.Triple.Walked.{Stays, stay-none-slice, gave-slice, stay-ref, walkOf, goes-none-slice, goes-gave-slice, goes-ref, Walks, ends-at, walked, walk-meets, says as k-says}
 use denote.Exit.{yes}
 use denote.Signature.{plain}
-use Rattle.leaf_split.specs.Digests.{DigestSays}
+use Rattle.digest.specs.Digests.{DigestSays}
 use denote.Struct.Laws as LL
 use Rattle.leaf_entries.proofs.Locals.{tyAt}
 use Rattle.leaf_entries.proofs.Freed.{all-freed, stands, sinks, cells}
 use Rattle.leaf_entries.proofs.Order.{lt-or-ge}
 use Rattle.leaf_entries.proofs.Again.{LentAgain, lends-again-at, comes-back-at}
 use Rattle.leaf_entries.proofs.Shared.{LentShared, shares-again-at, shared-back-at}
-use Rattle.leaf_within.specs.declared.LeafGave.{LeafGave}
-use Rattle.leaf_within.proofs.LeafGave as LeafGave-type
-use Rattle.leaf_within.proofs.LeafGave.Laws as LeafGave-laws
+use Rattle.leaf_digest.specs.declared.LeafGave.{LeafGave}
+use Rattle.leaf_digest.proofs.LeafGave as LeafGave-type
+use Rattle.leaf_digest.proofs.LeafGave.Laws as LeafGave-laws
 use Rattle.leaf_work.specs.declared.Work.{Work}
 use Rattle.leaf_work.proofs.Work as Work-type
 use Rattle.leaf_work.proofs.Work.Laws as Work-laws
 use Rattle.leaf_work.specs.declared.Entry.{Entry}
 use Rattle.leaf_work.proofs.Entry as Entry-type
 use Rattle.leaf_work.proofs.Entry.Laws as Entry-laws
-use Rattle.leaf_room.proofs.digest_list as callee₁
-use Rattle.leaf_room.proofs.digest_list.Symbol as callee₁-def
-use Rattle.leaf_room.proofs.digest_list.Symbol.{name as #leaf-room·digest-list}
-use Rattle.leaf_room.proofs.digest_list.Met as callee₁-thm
-use Rattle.leaf_within.specs.declared.DigestStep.{DigestStep}
-use Rattle.leaf_within.proofs.DigestStep as DigestStep-type
-use Rattle.leaf_within.proofs.DigestStep.Laws as DigestStep-laws
+use Rattle.digest.proofs.digest as callee₁
+use Rattle.digest.proofs.digest.Symbol as callee₁-def
+use Rattle.digest.proofs.digest.Symbol.{name as #digest·digest}
+use Rattle.digest.proofs.digest.Met as callee₁-thm
+use Rattle.digest.specs.declared.DigestStep.{DigestStep}
+use Rattle.digest.proofs.DigestStep as DigestStep-type
+use Rattle.digest.proofs.DigestStep.Laws as DigestStep-laws
 use Rattle.leaf_updater.proofs.leaf_digest.Key.{name as own-key}
 use Rattle.leaf_updater.proofs.leaf_digest as own
 use Rattle.leaf_updater.proofs.leaf_digest.Statement as stated
@@ -88,7 +88,7 @@ module _ {M : Type 1} (𝓤 : URA M) (H : Heap 𝓤) (A : Atoms 𝓤) (mem : Mem
   Callee₁ = tripleOf 𝓤 H A callee₁.signature (callee₁.spec 𝓤 H A mem run)
 
 module _ {M : Type 1} (𝓤 : URA M) (H : Heap 𝓤) (A : Atoms 𝓤) (W : Given 𝓤 H A) (at-mem : Memory → SProp 𝓤) (run : Routine → Fun 𝓤) where
-  -- `digest_list`, whatever it is called with
+  -- `digest`, whatever it is called with
   module _ (κ₀ : Lft) (q₀ : Share) (κ₁ : Lft) (q₁ : Share) (κ₂ : Lft) (q₂ : Share) (κ₃ : Lft) (q₃ : Share) (κ₄ : Lft) (q₄ : Share) (work : Work) (w-work : Val) (b-list o-list : ℕ) (γ-list : GName) (list : List Entry) (n-list : ℕ) (b-store o-store : ℕ) (γ-store : GName) (store : List ℕ) (n-store : ℕ) (b-page o-page : ℕ) (γ-page : GName) (page : List ℕ) (n-page : ℕ) (b-area o-area : ℕ) (γ-area : GName) (area : List ℕ) (n-area : ℕ) (b-tickets o-tickets : ℕ) (γ-tickets : GName) (tickets : List ℕ) (n-tickets : ℕ) where
     abbrev args₁ : Work × (RefT (List Entry) × (RefT (List ℕ) × (RefT (List ℕ) × (RefT (List ℕ) × (RefT (List ℕ) × Unit {0})))))
     args₁ = (work, ((record { ptr = (b-list, o-list); name = γ-list; now = list }), ((record { ptr = (b-store, o-store); name = γ-store; now = store }), ((record { ptr = (b-page, o-page); name = γ-page; now = page }), ((record { ptr = (b-area, o-area); name = γ-area; now = area }), ((record { ptr = (b-tickets, o-tickets); name = γ-tickets; now = tickets }), tt))))))
@@ -172,7 +172,7 @@ module _ {M : Type 1} (𝓤 : URA M) (H : Heap 𝓤) (A : Atoms 𝓤) (W : Given
   the-exit r w is work-exit list-exit len-list store-exit len-store area-exit len-area tickets-exit len-tickets fact-of =
       qed W (‵ (flft κ₀ q₀) ∷ ‵ (flft κ₁ q₁) ∷ ‵ (flft κ₂ q₂) ∷ ‵ (flft κ₃ q₃) ∷ ‵ (flft κ₄ q₄) ∷ ‵ (flft κ₅ q₅) ∷ ‵ (fobs γ-work (Work-type.the-row .coded .code work-exit)) ∷ ‵ (fbor κ₀ (Body (SemTy-of Work-type.the-row) b-work o-work γ-work)) ∷ ‵ (finally Entry-type.the-row γ-list list-exit) ∷ ‵ (finally u8 γ-store store-exit) ∷ ‵ (Own-page page) ∷ ‵ (finally u8 γ-area area-exit) ∷ ‵ (finally u8 γ-tickets tickets-exit) ∷ []) ∵ k-suffices ! _ (ends-at 𝓤 H A own.ended stayed (own.clauses 𝓤 H A at-mem run) W (((κ₀, (κ₁, (κ₂, (κ₃, (κ₄, (κ₅, tt)))))), (q₀, (q₁, (q₂, (q₃, (q₄, (q₅, tt)))))), tt, the-args, the-vals), tt) w r (work-exit, (list-exit, (store-exit, (tt, (area-exit, (tickets-exit, tt)))))) (tt, (len-list, (len-store, (tt, (len-area, (len-tickets, tt))))))) $ k-says ! fact-of $ k-nothing ! $ k-move ! (6 ∷ 0 ∷ []) $ k-join ! $ k-move ! (5 ∷ 0 ∷ []) $ k-join ! $ k-move ! (4 ∷ 0 ∷ []) $ k-join ! $ k-move ! (3 ∷ 0 ∷ []) $ k-join ! $ k-move ! (2 ∷ 0 ∷ []) $ k-join ! $ k-move ! (1 ∷ 0 ∷ []) $ k-join ! $ k-frame ! $ k-nothing ! $ k-move ! (7 ∷ 0 ∷ []) $ k-fjoin ! $ k-move ! (6 ∷ 0 ∷ []) $ k-fjoin ! $ k-move ! (5 ∷ 0 ∷ []) $ k-fjoin ! $ k-move ! (4 ∷ 0 ∷ []) $ k-fjoin ! $ k-move ! (3 ∷ 0 ∷ []) $ k-fjoin ! $ k-move ! (1 ∷ 2 ∷ 0 ∷ []) $ k-feqI ! (List Val) (sv-work ∷ []) (sv-work ∷ []) refl $ k-fjoin3 ! $ k-fjoin ! $ k-owned ! LeafGave-type.the-row (Is LeafGave-type.the-row) (LL.makes LeafGave-type.the-type LeafGave-laws.the-plain 𝓤 H A) r _ is $ k-move ! (1 ∷ 0 ∷ []) $ k-done !
 
-  module _ (𝓣 : Tables 𝓤 H) (known₁ : Triple 𝓤 (𝓣 .C #leaf-room·digest-list) (Callee₁ 𝓤 H A at-mem run)) where
+  module _ (𝓣 : Tables 𝓤 H) (known₁ : Triple 𝓤 (𝓣 .C #digest·digest) (Callee₁ 𝓤 H A at-mem run)) where
     walk : ent 𝓤 (onEntry 𝓤 H A own.signature (κ₀, (κ₁, (κ₂, (κ₃, (κ₄, (κ₅, tt)))))) (q₀, (q₁, (q₂, (q₃, (q₄, (q₅, tt)))))) the-args the-vals) (WpFn 𝓤 H (𝓣 .C) (𝓣 .Λ) code.function (sv-work ∷ sv-list ∷ sv-store ∷ sv-page ∷ sv-area ∷ sv-tickets ∷ []) Post)
     walk =
         qed W ((‵ (flft κ₀ q₀) ⊛ ‵ (flft κ₁ q₁) ⊛ ‵ (flft κ₂ q₂) ⊛ ‵ (flft κ₃ q₃) ⊛ ‵ (flft κ₄ q₄) ⊛ ‵ (flft κ₅ q₅) ⊛ ‵ ftrue) ∷ ‵ (owns (MutRef (named 0) κ₀ Work-type.the-row ∷ MutSlice (named 1) κ₁ Entry-type.the-row ∷ MutSlice (named 2) κ₂ u8 ∷ ShrSlice (named 3) κ₃ u8 ∷ MutSlice (named 4) κ₄ u8 ∷ MutSlice (named 5) κ₅ u8 ∷ []) the-args the-vals) ∷ []) ∵ k-enter ! (𝓣 .C) (𝓣 .Λ) code.function (sv-work ∷ sv-list ∷ sv-store ∷ sv-page ∷ sv-area ∷ sv-tickets ∷ []) _ $
@@ -249,7 +249,7 @@ module _ {M : Type 1} (𝓤 : URA M) (H : Heap 𝓤) (A : Atoms 𝓤) (W : Given
         k-keep ! (2 ∷ 7 ∷ 6 ∷ 5 ∷ 4 ∷ 3 ∷ 0 ∷ 1 ∷ 11 ∷ 10 ∷ 12 ∷ 9 ∷ 8 ∷ []) $
         k-by ! (the-exit (r₁ .reply) (mach-LeafGave ((r₁ .reply))) (LL.owed DigestStep-type.the-type DigestStep-laws.the-laws r₁ _ (subst (λ (u : Val). Is DigestStep-type.the-row r₁ (u ∷ [])) (ap only ((LL.tells DigestStep-type.the-type DigestStep-laws.the-laws) r₁ _ is₁)) is₁) .0) ((r₁ .work)) ((zs₁ .1 .0)) len-list₁ ((zs₁ .1 .1 .0)) len-store₁ ((zs₁ .1 .1 .1 .1 .0)) len-area₁ ((zs₁ .1 .1 .1 .1 .1 .0)) len-tickets₁ (f₁))))))))))))))))))))))))))))))
 
-module _ {M : Type 1} (𝓤 : URA M) (H : Heap 𝓤) (A : Atoms 𝓤) (W : Given 𝓤 H A) (mem : Memory → SProp 𝓤) (run : Routine → Fun 𝓤) (𝓣 : Tables 𝓤 H) (known₁ : Triple 𝓤 (𝓣 .C #leaf-room·digest-list) (Callee₁ 𝓤 H A mem run)) where
+module _ {M : Type 1} (𝓤 : URA M) (H : Heap 𝓤) (A : Atoms 𝓤) (W : Given 𝓤 H A) (mem : Memory → SProp 𝓤) (run : Routine → Fun 𝓤) (𝓣 : Tables 𝓤 H) (known₁ : Triple 𝓤 (𝓣 .C #digest·digest) (Callee₁ 𝓤 H A mem run)) where
   leaf-digest-walks : Walks 𝓤 H A own.ended stayed (WpFn 𝓤 H (𝓣 .C) (𝓣 .Λ) code.function) (own.clauses 𝓤 H A mem run)
   leaf-digest-walks = walked 𝓤 H A own.ended stayed (own.clauses 𝓤 H A mem run) (WpFn 𝓤 H (𝓣 .C) (𝓣 .Λ) code.function)
       (λ κs. (ptr-vals, (slice-vals, (slice-vals, (slice-vals, (slice-vals, (slice-vals, tt))))))) (λ κs. (mut-tells (named 0) (κs .0) Work-type.the-row, (mut-slice-tells (named 1) (κs .1 .0) Entry-type.the-row, (mut-slice-tells (named 2) (κs .1 .1 .0) u8, (shr-slice-tells (named 3) (κs .1 .1 .1 .0) u8, (mut-slice-tells (named 4) (κs .1 .1 .1 .1 .0) u8, (mut-slice-tells (named 5) (κs .1 .1 .1 .1 .1 .0) u8, tt)))))))
@@ -265,4 +265,4 @@ leaf-digest-spec 𝓤 H 𝓜 𝓖 𝓡 =
     entered 𝓤 H (tripleOf 𝓤 H (𝓖 .A) own.signature (own.spec 𝓤 H (𝓖 .A) (𝓜 .mem) (𝓡 .run)))
     (tables 𝓤 H 𝓜 𝓡 code.env .C) (tables 𝓤 H 𝓜 𝓡 code.env .Λ) own-key code.function (code.unfolded 𝓤 H 𝓜 𝓡)
     (leaf-digest-meets 𝓤 H (𝓖 .A) (givenOf 𝓤 H 𝓜 𝓖) (𝓜 .mem) (𝓡 .run) (tablesOf 𝓤 H 𝓜 (tables 𝓤 H 𝓜 𝓡 code.env))
-    (cited 𝓤 H (Callee₁ 𝓤 H (𝓖 .A) (𝓜 .mem) (𝓡 .run)) 𝓜 𝓡 code.env #leaf-room·digest-list callee₁-def.routine code.calls-leaf-room·digest-list (callee₁-thm.met 𝓤 H 𝓜 𝓖 𝓡)))
+    (cited 𝓤 H (Callee₁ 𝓤 H (𝓖 .A) (𝓜 .mem) (𝓡 .run)) 𝓜 𝓡 code.env #digest·digest callee₁-def.routine code.calls-digest·digest (callee₁-thm.met 𝓤 H 𝓜 𝓖 𝓡)))

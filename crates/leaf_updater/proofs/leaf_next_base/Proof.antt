@@ -44,6 +44,7 @@ use denote.Signature.{plain}
 use Rattle.leaf_work.specs.Tests.{isSet}
 use Rattle.leaf_updater.specs.Calls.{NextBaseSays}
 use Rattle.leaf_passed.specs.Passed.{PassingOn, closedBeginning, passedOver}
+use Rattle.leaf_node.specs.Fits.{All}
 use Rattle.leaf_work.specs.Outcome.{replyNumber, Changed, nextBaseOf}
 use Rattle.leaf_step.specs.Over.{ClosedOver}
 use denote.Struct.Laws as LL
@@ -137,7 +138,7 @@ module _ {M : Type 1} (𝓤 : URA M) (H : Heap 𝓤) (A : Atoms 𝓤) (W : Given
         qed W (‵ (flft κ₀ q₀) ∷ ‵ (flft κ₁ q₁) ∷ ‵ (ShrSlice (named 0) κ₀ Entry-type.the-row .own (record { ptr = (b-list, o-list); name = γ-list; now = list }) (sliceVal (b-list, o-list) n-list ∷ [])) ∷ ‵ (ShrSlice (named 1) κ₁ u8 .own (record { ptr = (b-page, o-page); name = γ-page; now = page }) (sliceVal (b-page, o-page) n-page ∷ [])) ∷ []) ∵ k-says ! req $ k-nothing ! $ k-owned ! Passing-type.the-row (Is Passing-type.the-row) (LL.makes Passing-type.the-type Passing-laws.the-plain 𝓤 H A) start _ is-start $ k-fjoin ! $ k-move ! (4 ∷ 0 ∷ []) $ k-fjoin ! $ k-move ! (3 ∷ 0 ∷ []) $ k-fjoin ! $ k-nothing ! $ k-move ! (3 ∷ 0 ∷ []) $ k-join ! $ k-move ! (2 ∷ 0 ∷ []) $ k-join ! $ k-frame ! $ k-done !
 
   abbrev Said₂ : (list : List Entry) (page : List ℕ) (start : Passing) (r : Passing) → Type 0
-  Said₂ list page start r = (r ≡ passedOver (page) start (list)) × (PassingOn r (page))
+  Said₂ list page start r = (r ≡ passedOver (page) start (list)) × (PassingOn r (page)) × (All (λ e. length (e .key) ≡ 32) (list))
 
   -- `next_base_step`, whatever it is called with
   module _ (κ₀ : Lft) (q₀ : Share) (κ₁ : Lft) (q₁ : Share) (κ₂ : Lft) (q₂ : Share) (κ₃ : Lft) (q₃ : Share) (work : Work) (w-work : Val) (at : Passing) (w-at : Val) (entries : ℕ) (w-entries : Val) (b-store o-store : ℕ) (γ-store : GName) (store : List ℕ) (n-store : ℕ) (b-page o-page : ℕ) (γ-page : GName) (page : List ℕ) (n-page : ℕ) (b-separator o-separator : ℕ) (γ-separator : GName) (separator : List ℕ) (cut : ℕ) (w-cut : Val) (b-cutoff o-cutoff : ℕ) (γ-cutoff : GName) (cutoff : List ℕ) where

@@ -42,6 +42,7 @@ use denote.Exit.{yes}
 use denote.Signature.{plain}
 use Rattle.leaf_updater.specs.Calls.{RemoveCutoffSays}
 use Rattle.leaf_passed.specs.Passed.{PassingOn, closedBeginning, passedOver}
+use Rattle.leaf_node.specs.Fits.{All}
 use Rattle.leaf_work.specs.Outcome.{replyNumber, Changed, removeCutoffOf}
 use Rattle.leaf_step.specs.Over.{ClosedOver}
 use denote.Struct.Laws as LL
@@ -135,7 +136,7 @@ module _ {M : Type 1} (𝓤 : URA M) (H : Heap 𝓤) (A : Atoms 𝓤) (W : Given
         qed W (‵ (flft κ₀ q₀) ∷ ‵ (flft κ₁ q₁) ∷ ‵ (ShrSlice (named 0) κ₀ Entry-type.the-row .own (record { ptr = (b-list, o-list); name = γ-list; now = list }) (sliceVal (b-list, o-list) n-list ∷ [])) ∷ ‵ (ShrSlice (named 1) κ₁ u8 .own (record { ptr = (b-page, o-page); name = γ-page; now = page }) (sliceVal (b-page, o-page) n-page ∷ [])) ∷ []) ∵ k-says ! req $ k-nothing ! $ k-owned ! Passing-type.the-row (Is Passing-type.the-row) (LL.makes Passing-type.the-type Passing-laws.the-plain 𝓤 H A) start _ is-start $ k-fjoin ! $ k-move ! (4 ∷ 0 ∷ []) $ k-fjoin ! $ k-move ! (3 ∷ 0 ∷ []) $ k-fjoin ! $ k-nothing ! $ k-move ! (3 ∷ 0 ∷ []) $ k-join ! $ k-move ! (2 ∷ 0 ∷ []) $ k-join ! $ k-frame ! $ k-done !
 
   abbrev Said₂ : (list : List Entry) (page : List ℕ) (start : Passing) (r : Passing) → Type 0
-  Said₂ list page start r = (r ≡ passedOver (page) start (list)) × (PassingOn r (page))
+  Said₂ list page start r = (r ≡ passedOver (page) start (list)) × (PassingOn r (page)) × (All (λ e. length (e .key) ≡ 32) (list))
 
   -- `remove_step`, whatever it is called with
   module _ (κ₀ : Lft) (q₀ : Share) (work : Work) (w-work : Val) (at : Passing) (w-at : Val) (entries : ℕ) (w-entries : Val) (b-store o-store : ℕ) (γ-store : GName) (store : List ℕ) (n-store : ℕ) where
