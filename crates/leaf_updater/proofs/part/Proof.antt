@@ -40,6 +40,7 @@ use denote.Exit.{yes}
 use denote.Signature.{plain}
 use denote.Struct.Laws as LL
 use Rattle.leaf_work.specs.declared.Work.{Work}
+use Rattle.leaf_node.specs.Fits.{All}
 use Rattle.leaf_work.specs.declared.Entry.{Entry}
 use Rattle.leaf_work.specs.Outcome.{partOf}
 use Rattle.leaf_passed.specs.declared.Passing.{Passing}
@@ -170,7 +171,7 @@ module _ {M : Type 1} (𝓤 : URA M) (H : Heap 𝓤) (A : Atoms 𝓤) (W : Given
       says ! on $ nothing ! $ owned ! P.the-row (Is P.the-row) (LL.makes P.the-type P′.the-plain 𝓤 H A) r _ is $ fjoin ! $ move ! (4 ∷ 0 ∷ []) $ fjoin ! $ move ! (3 ∷ 0 ∷ []) $ fjoin ! $ nothing ! $ move ! (3 ∷ 0 ∷ []) $ join ! $ move ! (2 ∷ 0 ∷ []) $ join ! $ frame ! $ done !
 
   abbrev Passed : Passing → Passing → Type 0
-  Passed r z = (z ≡ passedOver (p .now) r es) × PassingOn z (p .now)
+  Passed r z = (z ≡ passedOver (p .now) r es) × PassingOn z (p .now) × All (λ (e : Entry). length (e .key) ≡ 32) es
 
   said₂ : (r z : Passing) → ent 𝓤 (ensured 𝓤 H A pass.ended (pass.clauses 𝓤 H A at-mem run) (κ₀, (κ₁, tt)) (args₂ r) tt z) (fact 𝓤 (Passed r z))
   said₂ r z = exE 𝓤 _ (λ ws. snd∗ 𝓤 (sem 𝓤 H A (lasts pass.ended (κ₀, (κ₁, tt)) (args₂ r) ws)) (fact 𝓤 (Passed r z)))
