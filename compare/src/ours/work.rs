@@ -225,14 +225,11 @@ impl LentWork {
 
 /// A call that changes work, list and store: these three as they are lent, and what else it takes.
 macro_rules! changing {
-    ($call:ident, $lent:ident $(, $more:expr)*) => {
-        changing!($call as stringify!($call), $lent $(, $more)*)
-    };
-    ($call:ident as $name:expr, $lent:ident $(, $more:expr)*) => {{
+    ($call:ident, $lent:ident $(, $more:expr)*) => {{
         let (work, list) = ($lent.work.ptr_mut().cast(), $lent.list.ptr_mut().cast());
         let (entries, store, bytes) = ($lent.entries, $lent.store.ptr_mut(), $lent.bytes);
         let call = || unsafe { $call(work, list, entries, store, bytes $(, $more)*) };
-        metered($name, call)
+        metered(stringify!($call), call)
     }};
 }
 
@@ -360,10 +357,6 @@ fn reported(report: &LeafReport) -> Ran<Report> {
     }
 }
 
-/// The name under which the stack of a digest with few entries in use is measured, and how many those are at most.
-pub const SMALL_DIGEST: &str = "leaf_digest, few used";
-const FEW_USED: usize = 63;
-
 /// A digest: state, area and tickets are then what it left.
 pub fn digest(
     state: &mut State,
@@ -377,12 +370,8 @@ pub fn digest(
     let (base, base_length) = (lent_page.ptr(), page.len());
     let (pages, pages_length) = (lent_area.ptr_mut(), area.len());
     let (packed, packed_length) = (lent_tickets.ptr_mut(), tickets.len());
-    let name = match state.work.used {
-        0..=FEW_USED => SMALL_DIGEST,
-        _ => "leaf_digest",
-    };
     let gave = changing!(
-        leaf_digest as name,
+        leaf_digest,
         lent,
         base,
         base_length,

@@ -6,6 +6,7 @@ use leaf_cut::Cursor;
 use leaf_cut::Gauge;
 use leaf_cut::Span;
 use leaf_cut::Taken;
+use leaf_cut::span_of;
 use leaf_give::Beginning;
 use leaf_give::Progress;
 use leaf_give::begin_leaves;
@@ -20,19 +21,9 @@ ghost use Rattle.leaf_work.specs.Flat.{rowsOf, keysOf};
 ghost use Rattle.leaf_give.specs.Giving.{Gives, GivenOut};
 ghost use Rattle.leaf_give.specs.Steps.{Along};
 ghost use Rattle.digest_leaf.specs.Consuming.{gaugeOf};
-ghost use Rattle.digest_leaves.specs.Leaves.{spanBy, endBy, whileCut, isLast, cutOn, CutAsked};
+ghost use Rattle.digest_leaves.specs.Leaves.{endBy, whileCut, isLast, cutOn, CutAsked};
 
 // ---- by value
-
-fn span_by(work: Work, n: usize) -> Span
-    ensures { λ r. ⌜ r ≡ spanBy work n ⌝ }
-{
-    Span {
-        used: work.used,
-        low: work.low,
-        n: n,
-    }
-}
 
 // The cursor behind all that is pending.
 fn end_by(work: Work, n: usize) -> Cursor
@@ -119,7 +110,7 @@ fn try_build_leaves(
     requires { ⌜ CutAsked size work (now list) (now store) (now page) (now area) (now tickets) n start target ⌝ }
     ensures { λ r. ⌜ Along size work (rowsOf (now (list .entry))) (keysOf (now (list .entry))) (now (store .entry)) (now (page .entry)) (now (area .entry)) (now (tickets .entry)) (cutOn size work (now (list .entry)) (now (store .entry)) (now (page .entry))) r (now (area .exit)) (now (tickets .exit)) ⌝ }
 {
-    let span = span_by(work, n);
+    let span = span_of(work, n);
     let limit = limit_of(size);
     let first = consume_and_update_until(list, page, span, start.at, target, limit);
     let most = while_cut(first, area.len());
@@ -191,7 +182,7 @@ pub fn give_leaves(
     let mut p = cut_leaves(work, list, store, page, n, area, tickets, size);
     let last = is_last(work, p, size);
     if last {
-        let span = span_by(work, n);
+        let span = span_of(work, n);
         let at = end_by(work, n);
         let given = give_leaf(
             list,

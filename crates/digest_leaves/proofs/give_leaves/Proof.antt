@@ -43,7 +43,7 @@ use Rattle.leaf_node.specs.Page.{count}
 use Rattle.leaf_work.specs.Flat.{rowsOf, keysOf}
 use Rattle.leaf_give.specs.Giving.{Gives, GivenOut}
 use Rattle.leaf_give.specs.Steps.{Along, LeafThere, LeafGiven}
-use Rattle.digest_leaves.specs.Leaves.{cutOn, isLast, spanBy, endBy}
+use Rattle.digest_leaves.specs.Leaves.{cutOn, isLast, endBy}
 use Rattle.leaf_node.specs.Limits.{PageSize}
 use Rattle.leaf_work.specs.Lent.{cutoffOf}
 use Rattle.leaf_entries.proofs.Arms.{held, failed}
@@ -71,10 +71,10 @@ use Rattle.digest_leaves.proofs.is_last as callee₂
 use Rattle.digest_leaves.proofs.is_last.Symbol as callee₂-def
 use Rattle.digest_leaves.proofs.is_last.Symbol.{name as #digest-leaves·is-last}
 use Rattle.digest_leaves.proofs.is_last.Met as callee₂-thm
-use Rattle.digest_leaves.proofs.span_by as callee₃
-use Rattle.digest_leaves.proofs.span_by.Symbol as callee₃-def
-use Rattle.digest_leaves.proofs.span_by.Symbol.{name as #digest-leaves·span-by}
-use Rattle.digest_leaves.proofs.span_by.Met as callee₃-thm
+use Rattle.leaf_cut.proofs.span_of as callee₃
+use Rattle.leaf_cut.proofs.span_of.Symbol as callee₃-def
+use Rattle.leaf_cut.proofs.span_of.Symbol.{name as #leaf-cut·span-of}
+use Rattle.leaf_cut.proofs.span_of.Met as callee₃-thm
 use Rattle.leaf_cut.specs.declared.Span.{Span}
 use Rattle.leaf_cut.proofs.Span as Span-type
 use Rattle.leaf_cut.proofs.Span.Laws as Span-laws
@@ -166,7 +166,7 @@ module _ {M : Type 1} (𝓤 : URA M) (H : Heap 𝓤) (A : Atoms 𝓤) (W : Given
   abbrev Said₂ : (work : Work) (p : Progress) (size : ℕ) (r : Bool) → Type 0
   Said₂ work p size r = r ≡ isLast size work p
 
-  -- `span_by`, whatever it is called with
+  -- `span_of`, whatever it is called with
   module _ (work : Work) (w-work : Val) (n : ℕ) (w-n : Val) where
     abbrev args₃ : Work × (ℕ × Unit {0})
     args₃ = (work, (n, tt))
@@ -179,7 +179,7 @@ module _ {M : Type 1} (𝓤 : URA M) (H : Heap 𝓤) (A : Atoms 𝓤) (W : Given
         qed W ([]) ∵ k-nothing ! $ k-owned ! usize (Is usize) (uint-makes 𝓤 H A W w64) n _ is-n $ k-fjoin ! $ k-owned ! Work-type.the-row (Is Work-type.the-row) (LL.makes Work-type.the-type Work-laws.the-plain 𝓤 H A) work _ is-work $ k-fjoin ! $ k-nothing ! $ k-join ! $ k-frame ! $ k-done !
 
   abbrev Said₃ : (work : Work) (n : ℕ) (r : Span) → Type 0
-  Said₃ work n r = r ≡ spanBy work n
+  Said₃ work n r = r ≡ record { used = work .used; low = work .low; n = n }
 
   -- `end_by`, whatever it is called with
   module _ (work : Work) (w-work : Val) (n : ℕ) (w-n : Val) where
@@ -271,7 +271,7 @@ module _ {M : Type 1} (𝓤 : URA M) (H : Heap 𝓤) (A : Atoms 𝓤) (W : Given
   the-exit r w is area-exit len-area tickets-exit len-tickets fact-of =
       qed W (‵ (flft κ₀ q₀) ∷ ‵ (flft κ₁ q₁) ∷ ‵ (flft κ₂ q₂) ∷ ‵ (flft κ₃ q₃) ∷ ‵ (flft κ₄ q₄) ∷ ‵ (Own-list list) ∷ ‵ (Own-store store) ∷ ‵ (Own-page page) ∷ ‵ (Own-area area-exit) ∷ ‵ (Own-tickets tickets-exit) ∷ []) ∵ k-suffices ! _ (ends-at 𝓤 H A own.ended stayed (own.clauses 𝓤 H A at-mem run) W (((κ₀, (κ₁, (κ₂, (κ₃, (κ₄, tt))))), (q₀, (q₁, (q₂, (q₃, (q₄, tt))))), tt, the-args, the-vals), tt) w r (tt, (tt, (tt, (tt, (tt, (area-exit, (tickets-exit, (tt, tt)))))))) (tt, (tt, (tt, (tt, (tt, (len-area, (len-tickets, (tt, tt))))))))) $ k-says ! fact-of $ k-nothing ! $ k-move ! (5 ∷ 0 ∷ []) $ k-join ! $ k-move ! (4 ∷ 0 ∷ []) $ k-join ! $ k-move ! (3 ∷ 0 ∷ []) $ k-join ! $ k-move ! (2 ∷ 0 ∷ []) $ k-join ! $ k-move ! (1 ∷ 0 ∷ []) $ k-join ! $ k-frame ! $ k-nothing ! $ k-owned ! usize (Is usize) (uint-makes 𝓤 H A W w64) size _ (refl, size-fits) $ k-fjoin ! $ k-move ! (5 ∷ 0 ∷ []) $ k-fjoin ! $ k-move ! (4 ∷ 0 ∷ []) $ k-fjoin ! $ k-owned ! usize (Is usize) (uint-makes 𝓤 H A W w64) n _ (refl, n-fits) $ k-fjoin ! $ k-move ! (3 ∷ 0 ∷ []) $ k-fjoin ! $ k-move ! (2 ∷ 0 ∷ []) $ k-fjoin ! $ k-move ! (1 ∷ 0 ∷ []) $ k-fjoin ! $ k-owned ! Work-type.the-row (Is Work-type.the-row) (LL.makes Work-type.the-type Work-laws.the-plain 𝓤 H A) work _ is-work $ k-fjoin ! $ k-owned ! Progress-type.the-row (Is Progress-type.the-row) (LL.makes Progress-type.the-type Progress-laws.the-plain 𝓤 H A) r _ is $ k-move ! (1 ∷ 0 ∷ []) $ k-done !
 
-  module _ (𝓣 : Tables 𝓤 H) (known₁ : Triple 𝓤 (𝓣 .C #digest-leaves·cut-leaves) (Callee₁ 𝓤 H A at-mem run)) (known₂ : Triple 𝓤 (𝓣 .C #digest-leaves·is-last) (Callee₂ 𝓤 H A at-mem run)) (known₃ : Triple 𝓤 (𝓣 .C #digest-leaves·span-by) (Callee₃ 𝓤 H A at-mem run)) (known₄ : Triple 𝓤 (𝓣 .C #digest-leaves·end-by) (Callee₄ 𝓤 H A at-mem run)) (known₅ : Triple 𝓤 (𝓣 .C #digest-give·give-leaf) (Callee₅ 𝓤 H A at-mem run)) where
+  module _ (𝓣 : Tables 𝓤 H) (known₁ : Triple 𝓤 (𝓣 .C #digest-leaves·cut-leaves) (Callee₁ 𝓤 H A at-mem run)) (known₂ : Triple 𝓤 (𝓣 .C #digest-leaves·is-last) (Callee₂ 𝓤 H A at-mem run)) (known₃ : Triple 𝓤 (𝓣 .C #leaf-cut·span-of) (Callee₃ 𝓤 H A at-mem run)) (known₄ : Triple 𝓤 (𝓣 .C #digest-leaves·end-by) (Callee₄ 𝓤 H A at-mem run)) (known₅ : Triple 𝓤 (𝓣 .C #digest-give·give-leaf) (Callee₅ 𝓤 H A at-mem run)) where
     abbrev En : (l₀ l₁ l₂ l₃ l₄ l₅ l₆ l₇ l₈ l₉ l₁₀ l₁₁ l₁₂ l₁₃ l₁₄ l₁₅ l₁₆ l₁₇ l₁₈ l₁₉ l₂₀ l₂₁ l₂₂ : ℕ) → Env 𝓤 H
     En l₀ l₁ l₂ l₃ l₄ l₅ l₆ l₇ l₈ l₉ l₁₀ l₁₁ l₁₂ l₁₃ l₁₄ l₁₅ l₁₆ l₁₇ l₁₈ l₁₉ l₂₀ l₂₁ l₂₂ = ((tyAt piece.locals 0), l₀) ∷ ((tyAt piece.locals 1), l₁) ∷ ((tyAt piece.locals 2), l₂) ∷ ((tyAt piece.locals 3), l₃) ∷ ((tyAt piece.locals 4), l₄) ∷ ((tyAt piece.locals 5), l₅) ∷ ((tyAt piece.locals 6), l₆) ∷ ((tyAt piece.locals 7), l₇) ∷ ((tyAt piece.locals 8), l₈) ∷ ((tyAt piece.locals 9), l₉) ∷ ((tyAt piece.locals 10), l₁₀) ∷ ((tyAt piece.locals 11), l₁₁) ∷ ((tyAt piece.locals 12), l₁₂) ∷ ((tyAt piece.locals 13), l₁₃) ∷ ((tyAt piece.locals 14), l₁₄) ∷ ((tyAt piece.locals 15), l₁₅) ∷ ((tyAt piece.locals 16), l₁₆) ∷ ((tyAt piece.locals 17), l₁₇) ∷ ((tyAt piece.locals 18), l₁₈) ∷ ((tyAt piece.locals 19), l₁₉) ∷ ((tyAt piece.locals 20), l₂₀) ∷ ((tyAt piece.locals 21), l₂₁) ∷ ((tyAt piece.locals 22), l₂₂) ∷ []
 
@@ -461,7 +461,7 @@ module _ {M : Type 1} (𝓤 : URA M) (H : Heap 𝓤) (A : Atoms 𝓤) (W : Given
         k-keep ! (6 ∷ 5 ∷ 4 ∷ 3 ∷ 1 ∷ 9 ∷ 8 ∷ 7 ∷ 2 ∷ 0 ∷ []) $
         k-by ! (the-exit r₁ (mach-Progress r₁) (subst (λ (u : Val). Is Progress-type.the-row r₁ (u ∷ [])) (ap only ((LL.tells Progress-type.the-type Progress-laws.the-laws) r₁ _ is₁)) is₁) ((zs₁ .1 .1 .1 .1 .1 .0)) len-area₁ ((zs₁ .1 .1 .1 .1 .1 .1 .0)) len-tickets₁ (what-is-left-is-kept size work list store page area tickets n req r₁ area-exit₁ tickets-exit₁ f₁ r₂ f₂ (failed r₂ no))))))))))))))))))))))))))))))))))))))))))
 
-module _ {M : Type 1} (𝓤 : URA M) (H : Heap 𝓤) (A : Atoms 𝓤) (W : Given 𝓤 H A) (mem : Memory → SProp 𝓤) (run : Routine → Fun 𝓤) (𝓣 : Tables 𝓤 H) (known₁ : Triple 𝓤 (𝓣 .C #digest-leaves·cut-leaves) (Callee₁ 𝓤 H A mem run)) (known₂ : Triple 𝓤 (𝓣 .C #digest-leaves·is-last) (Callee₂ 𝓤 H A mem run)) (known₃ : Triple 𝓤 (𝓣 .C #digest-leaves·span-by) (Callee₃ 𝓤 H A mem run)) (known₄ : Triple 𝓤 (𝓣 .C #digest-leaves·end-by) (Callee₄ 𝓤 H A mem run)) (known₅ : Triple 𝓤 (𝓣 .C #digest-give·give-leaf) (Callee₅ 𝓤 H A mem run)) where
+module _ {M : Type 1} (𝓤 : URA M) (H : Heap 𝓤) (A : Atoms 𝓤) (W : Given 𝓤 H A) (mem : Memory → SProp 𝓤) (run : Routine → Fun 𝓤) (𝓣 : Tables 𝓤 H) (known₁ : Triple 𝓤 (𝓣 .C #digest-leaves·cut-leaves) (Callee₁ 𝓤 H A mem run)) (known₂ : Triple 𝓤 (𝓣 .C #digest-leaves·is-last) (Callee₂ 𝓤 H A mem run)) (known₃ : Triple 𝓤 (𝓣 .C #leaf-cut·span-of) (Callee₃ 𝓤 H A mem run)) (known₄ : Triple 𝓤 (𝓣 .C #digest-leaves·end-by) (Callee₄ 𝓤 H A mem run)) (known₅ : Triple 𝓤 (𝓣 .C #digest-give·give-leaf) (Callee₅ 𝓤 H A mem run)) where
   give-leaves-walks : Walks 𝓤 H A own.ended stayed (WpFn 𝓤 H (𝓣 .C) (𝓣 .Λ) code.function) (own.clauses 𝓤 H A mem run)
   give-leaves-walks = walked 𝓤 H A own.ended stayed (own.clauses 𝓤 H A mem run) (WpFn 𝓤 H (𝓣 .C) (𝓣 .Λ) code.function)
       (λ κs. (LL.vals Work-type.the-type Work-laws.the-laws, (slice-vals, (slice-vals, (slice-vals, (uint-vals w64, (slice-vals, (slice-vals, (uint-vals w64, tt))))))))) (λ κs. (LL.tells Work-type.the-type Work-laws.the-laws, (shr-slice-tells (named 0) (κs .0) Entry-type.the-row, (shr-slice-tells (named 1) (κs .1 .0) u8, (shr-slice-tells (named 2) (κs .1 .1 .0) u8, (uint-tells w64, (mut-slice-tells (named 3) (κs .1 .1 .1 .0) u8, (mut-slice-tells (named 4) (κs .1 .1 .1 .1 .0) u8, (uint-tells w64, tt)))))))))
@@ -479,6 +479,6 @@ give-leaves-spec 𝓤 H 𝓜 𝓖 𝓡 =
     (give-leaves-meets 𝓤 H (𝓖 .A) (givenOf 𝓤 H 𝓜 𝓖) (𝓜 .mem) (𝓡 .run) (tablesOf 𝓤 H 𝓜 (tables 𝓤 H 𝓜 𝓡 code.env))
     (cited 𝓤 H (Callee₁ 𝓤 H (𝓖 .A) (𝓜 .mem) (𝓡 .run)) 𝓜 𝓡 code.env #digest-leaves·cut-leaves callee₁-def.routine code.calls-digest-leaves·cut-leaves (callee₁-thm.met 𝓤 H 𝓜 𝓖 𝓡))
     (cited 𝓤 H (Callee₂ 𝓤 H (𝓖 .A) (𝓜 .mem) (𝓡 .run)) 𝓜 𝓡 code.env #digest-leaves·is-last callee₂-def.routine code.calls-digest-leaves·is-last (callee₂-thm.met 𝓤 H 𝓜 𝓖 𝓡))
-    (cited 𝓤 H (Callee₃ 𝓤 H (𝓖 .A) (𝓜 .mem) (𝓡 .run)) 𝓜 𝓡 code.env #digest-leaves·span-by callee₃-def.routine code.calls-digest-leaves·span-by (callee₃-thm.met 𝓤 H 𝓜 𝓖 𝓡))
+    (cited 𝓤 H (Callee₃ 𝓤 H (𝓖 .A) (𝓜 .mem) (𝓡 .run)) 𝓜 𝓡 code.env #leaf-cut·span-of callee₃-def.routine code.calls-leaf-cut·span-of (callee₃-thm.met 𝓤 H 𝓜 𝓖 𝓡))
     (cited 𝓤 H (Callee₄ 𝓤 H (𝓖 .A) (𝓜 .mem) (𝓡 .run)) 𝓜 𝓡 code.env #digest-leaves·end-by callee₄-def.routine code.calls-digest-leaves·end-by (callee₄-thm.met 𝓤 H 𝓜 𝓖 𝓡))
     (cited 𝓤 H (Callee₅ 𝓤 H (𝓖 .A) (𝓜 .mem) (𝓡 .run)) 𝓜 𝓡 code.env #digest-give·give-leaf callee₅-def.routine code.calls-digest-give·give-leaf (callee₅-thm.met 𝓤 H 𝓜 𝓖 𝓡)))

@@ -48,7 +48,7 @@ use denote.Exit.{yes}
 use denote.Signature.{plain}
 use Rattle.leaf_work.specs.Flat.{rowsOf, keysOf}
 use Rattle.leaf_give.specs.Steps.{Along, LeafThere, LeafGiven}
-use Rattle.digest_leaves.specs.Leaves.{cutOn, CutAsked, spanBy, whileCut}
+use Rattle.digest_leaves.specs.Leaves.{cutOn, CutAsked, whileCut}
 use Rattle.leaf_cut.specs.Steps.{Spread, CursorIn, Leafed}
 use Rattle.digest_leaf.specs.Consuming.{gaugeOf}
 use Rattle.leaf_work.specs.Lent.{cutoffOf}
@@ -68,10 +68,10 @@ use Rattle.leaf_work.proofs.Work.Laws as Work-laws
 use Rattle.leaf_work.specs.declared.Entry.{Entry}
 use Rattle.leaf_work.proofs.Entry as Entry-type
 use Rattle.leaf_work.proofs.Entry.Laws as Entry-laws
-use Rattle.digest_leaves.proofs.span_by as callee₁
-use Rattle.digest_leaves.proofs.span_by.Symbol as callee₁-def
-use Rattle.digest_leaves.proofs.span_by.Symbol.{name as #digest-leaves·span-by}
-use Rattle.digest_leaves.proofs.span_by.Met as callee₁-thm
+use Rattle.leaf_cut.proofs.span_of as callee₁
+use Rattle.leaf_cut.proofs.span_of.Symbol as callee₁-def
+use Rattle.leaf_cut.proofs.span_of.Symbol.{name as #leaf-cut·span-of}
+use Rattle.leaf_cut.proofs.span_of.Met as callee₁-thm
 use Rattle.leaf_cut.specs.declared.Span.{Span}
 use Rattle.leaf_cut.proofs.Span as Span-type
 use Rattle.leaf_cut.proofs.Span.Laws as Span-laws
@@ -154,7 +154,7 @@ module _ {M : Type 1} (𝓤 : URA M) (H : Heap 𝓤) (A : Atoms 𝓤) (mem : Mem
   Callee₆ = tripleOf 𝓤 H A callee₆.signature (callee₆.spec 𝓤 H A mem run)
 
 module _ {M : Type 1} (𝓤 : URA M) (H : Heap 𝓤) (A : Atoms 𝓤) (W : Given 𝓤 H A) (at-mem : Memory → SProp 𝓤) (run : Routine → Fun 𝓤) where
-  -- `span_by`, whatever it is called with
+  -- `span_of`, whatever it is called with
   module _ (work : Work) (w-work : Val) (n : ℕ) (w-n : Val) where
     abbrev args₁ : Work × (ℕ × Unit {0})
     args₁ = (work, (n, tt))
@@ -167,7 +167,7 @@ module _ {M : Type 1} (𝓤 : URA M) (H : Heap 𝓤) (A : Atoms 𝓤) (W : Given
         qed W ([]) ∵ k-nothing ! $ k-owned ! usize (Is usize) (uint-makes 𝓤 H A W w64) n _ is-n $ k-fjoin ! $ k-owned ! Work-type.the-row (Is Work-type.the-row) (LL.makes Work-type.the-type Work-laws.the-plain 𝓤 H A) work _ is-work $ k-fjoin ! $ k-nothing ! $ k-join ! $ k-frame ! $ k-done !
 
   abbrev Said₁ : (work : Work) (n : ℕ) (r : Span) → Type 0
-  Said₁ work n r = r ≡ spanBy work n
+  Said₁ work n r = r ≡ record { used = work .used; low = work .low; n = n }
 
   -- `limit_of`, whatever it is called with
   module _ (size : ℕ) (w-size : Val) where
@@ -356,7 +356,7 @@ module _ {M : Type 1} (𝓤 : URA M) (H : Heap 𝓤) (A : Atoms 𝓤) (W : Given
     ends : (i : ℕ) (S : St) → (state₂ S) ≤ i → Known i S → length (list-area S) ≡ length area → length (list-tickets S) ≡ length tickets → Along size work (rowsOf (list)) (keysOf (list)) (store) (page) (area) (tickets) (cutOn size work (list) (store) (page)) (state₀ S) ((list-area S)) ((list-tickets S))
     ends i S past known len-area len-tickets = upon-last size work list store page area tickets n start target req r₄ r₁ f₁ r₂ f₂ (state₀ S) (state₁ S) (list-area S) (list-tickets S) (state₂ S) i known past len-area
 
-    module _ (𝓣 : Tables 𝓤 H) (known₁ : Triple 𝓤 (𝓣 .C #digest-leaves·span-by) (Callee₁ 𝓤 H A at-mem run)) (known₂ : Triple 𝓤 (𝓣 .C #digest-leaves·limit-of) (Callee₂ 𝓤 H A at-mem run)) (known₃ : Triple 𝓤 (𝓣 .C #digest-leaf·consume-and-update-until) (Callee₃ 𝓤 H A at-mem run)) (known₄ : Triple 𝓤 (𝓣 .C #digest-leaves·while-cut) (Callee₄ 𝓤 H A at-mem run)) (known₅ : Triple 𝓤 (𝓣 .C #digest-leaves·leaf-of) (Callee₅ 𝓤 H A at-mem run)) (known₆ : Triple 𝓤 (𝓣 .C #digest-give·give-leaf) (Callee₆ 𝓤 H A at-mem run)) where
+    module _ (𝓣 : Tables 𝓤 H) (known₁ : Triple 𝓤 (𝓣 .C #leaf-cut·span-of) (Callee₁ 𝓤 H A at-mem run)) (known₂ : Triple 𝓤 (𝓣 .C #digest-leaves·limit-of) (Callee₂ 𝓤 H A at-mem run)) (known₃ : Triple 𝓤 (𝓣 .C #digest-leaf·consume-and-update-until) (Callee₃ 𝓤 H A at-mem run)) (known₄ : Triple 𝓤 (𝓣 .C #digest-leaves·while-cut) (Callee₄ 𝓤 H A at-mem run)) (known₅ : Triple 𝓤 (𝓣 .C #digest-leaves·leaf-of) (Callee₅ 𝓤 H A at-mem run)) (known₆ : Triple 𝓤 (𝓣 .C #digest-give·give-leaf) (Callee₆ 𝓤 H A at-mem run)) where
       module _ (l₀ l₁ l₂ l₃ l₄ l₅ l₆ l₇ l₈ l₉ l₁₀ l₁₁ l₁₂ l₁₃ l₁₄ l₁₅ l₁₆ l₁₇ l₁₈ l₁₉ l₂₀ l₂₁ l₂₂ l₂₃ l₂₄ l₂₅ : ℕ) where
         abbrev En : Env 𝓤 H
         En = ((tyAt piece.locals 0), l₀) ∷ ((tyAt piece.locals 1), l₁) ∷ ((tyAt piece.locals 2), l₂) ∷ ((tyAt piece.locals 3), l₃) ∷ ((tyAt piece.locals 4), l₄) ∷ ((tyAt piece.locals 5), l₅) ∷ ((tyAt piece.locals 6), l₆) ∷ ((tyAt piece.locals 7), l₇) ∷ ((tyAt piece.locals 8), l₈) ∷ ((tyAt piece.locals 9), l₉) ∷ ((tyAt piece.locals 10), l₁₀) ∷ ((tyAt piece.locals 11), l₁₁) ∷ ((tyAt piece.locals 12), l₁₂) ∷ ((tyAt piece.locals 13), l₁₃) ∷ ((tyAt piece.locals 14), l₁₄) ∷ ((tyAt piece.locals 15), l₁₅) ∷ ((tyAt piece.locals 16), l₁₆) ∷ ((tyAt piece.locals 17), l₁₇) ∷ ((tyAt piece.locals 18), l₁₈) ∷ ((tyAt piece.locals 19), l₁₉) ∷ ((tyAt piece.locals 20), l₂₀) ∷ ((tyAt piece.locals 21), l₂₁) ∷ ((tyAt piece.locals 22), l₂₂) ∷ ((tyAt piece.locals 23), l₂₃) ∷ ((tyAt piece.locals 24), l₂₄) ∷ ((tyAt piece.locals 25), l₂₅) ∷ []
@@ -502,7 +502,7 @@ module _ {M : Type 1} (𝓤 : URA M) (H : Heap 𝓤) (A : Atoms 𝓤) (W : Given
         turns : (u : Upto) → Sq W (At u) (runs (𝓣 .C) (𝓣 .Λ) En piece.turn-1 (anyQ (Turned u)))
         turns u = elim (lt-or-ge (u .0) (state₂ (u .1 .0))) [ inl less ↦ more u less | inr past ↦ over u past ]
 
-  module _ (𝓣 : Tables 𝓤 H) (known₁ : Triple 𝓤 (𝓣 .C #digest-leaves·span-by) (Callee₁ 𝓤 H A at-mem run)) (known₂ : Triple 𝓤 (𝓣 .C #digest-leaves·limit-of) (Callee₂ 𝓤 H A at-mem run)) (known₃ : Triple 𝓤 (𝓣 .C #digest-leaf·consume-and-update-until) (Callee₃ 𝓤 H A at-mem run)) (known₄ : Triple 𝓤 (𝓣 .C #digest-leaves·while-cut) (Callee₄ 𝓤 H A at-mem run)) (known₅ : Triple 𝓤 (𝓣 .C #digest-leaves·leaf-of) (Callee₅ 𝓤 H A at-mem run)) (known₆ : Triple 𝓤 (𝓣 .C #digest-give·give-leaf) (Callee₆ 𝓤 H A at-mem run)) where
+  module _ (𝓣 : Tables 𝓤 H) (known₁ : Triple 𝓤 (𝓣 .C #leaf-cut·span-of) (Callee₁ 𝓤 H A at-mem run)) (known₂ : Triple 𝓤 (𝓣 .C #digest-leaves·limit-of) (Callee₂ 𝓤 H A at-mem run)) (known₃ : Triple 𝓤 (𝓣 .C #digest-leaf·consume-and-update-until) (Callee₃ 𝓤 H A at-mem run)) (known₄ : Triple 𝓤 (𝓣 .C #digest-leaves·while-cut) (Callee₄ 𝓤 H A at-mem run)) (known₅ : Triple 𝓤 (𝓣 .C #digest-leaves·leaf-of) (Callee₅ 𝓤 H A at-mem run)) (known₆ : Triple 𝓤 (𝓣 .C #digest-give·give-leaf) (Callee₆ 𝓤 H A at-mem run)) where
     walk : ent 𝓤 (onEntry 𝓤 H A own.signature (κ₀, (κ₁, (κ₂, (κ₃, (κ₄, tt))))) (q₀, (q₁, (q₂, (q₃, (q₄, tt))))) the-args the-vals) (WpFn 𝓤 H (𝓣 .C) (𝓣 .Λ) code.function ((mach-Work work) ∷ sv-list ∷ sv-store ∷ sv-page ∷ (vint w64 n) ∷ (mach-Progress start) ∷ (vint w64 target) ∷ sv-area ∷ sv-tickets ∷ (vint w64 size) ∷ []) Post)
     walk =
         qed W ((‵ (flft κ₀ q₀) ⊛ ‵ (flft κ₁ q₁) ⊛ ‵ (flft κ₂ q₂) ⊛ ‵ (flft κ₃ q₃) ⊛ ‵ (flft κ₄ q₄) ⊛ ‵ ftrue) ∷ ‵ (owns (Work-type.the-row ∷ ShrSlice (named 0) κ₀ Entry-type.the-row ∷ ShrSlice (named 1) κ₁ u8 ∷ ShrSlice (named 2) κ₂ u8 ∷ usize ∷ Progress-type.the-row ∷ usize ∷ MutSlice (named 3) κ₃ u8 ∷ MutSlice (named 4) κ₄ u8 ∷ usize ∷ []) the-args the-vals) ∷ []) ∵ k-enter ! (𝓣 .C) (𝓣 .Λ) code.function ((mach-Work work) ∷ sv-list ∷ sv-store ∷ sv-page ∷ (vint w64 n) ∷ (mach-Progress start) ∷ (vint w64 target) ∷ sv-area ∷ sv-tickets ∷ (vint w64 size) ∷ []) _ $
@@ -595,7 +595,7 @@ module _ {M : Type 1} (𝓤 : URA M) (H : Heap 𝓤) (A : Atoms 𝓤) (W : Given
         k-assigns ! (k-of-opd ! (k-lit ! tt)) (k-from ! (k-stop !)) (k-init ! 24 refl (tt, record { fits = lit< tt })) $
         k-first ! $ k-blocks ! $ k-loops ! 𝓣 (Nearer w₁ r₁ is₁ f₁ w₂ r₂ is₂ f₂ w₃ r₃ is₃ f₃ w₄ r₄ is₄ f₄) (Nearer-wf w₁ r₁ is₁ f₁ w₂ r₂ is₂ f₂ w₃ r₃ is₃ f₃ w₄ r₄ is₄ f₄) (At w₁ r₁ is₁ f₁ w₂ r₂ is₂ f₂ w₃ r₃ is₃ f₃ w₄ r₄ is₄ f₄ 𝓣 known₁ known₂ known₃ known₄ known₅ known₆ l₀ l₁ l₂ l₃ l₄ l₅ l₆ l₇ l₈ l₉ l₁₀ l₁₁ l₁₂ l₁₃ l₁₄ l₁₅ l₁₆ l₁₇ l₁₈ l₁₉ l₂₀ l₂₁ l₂₂ l₂₃ l₂₄ l₂₅) (turns w₁ r₁ is₁ f₁ w₂ r₂ is₂ f₂ w₃ r₃ is₃ f₃ w₄ r₄ is₄ f₄ 𝓣 known₁ known₂ known₃ known₄ known₅ known₆ l₀ l₁ l₂ l₃ l₄ l₅ l₆ l₇ l₈ l₉ l₁₀ l₁₁ l₁₂ l₁₃ l₁₄ l₁₅ l₁₆ l₁₇ l₁₈ l₁₉ l₂₀ l₂₁ l₂₂ l₂₃ l₂₄ l₂₅) (0, ((start, (r₃, (r₄, (area, (tickets, (tt)))))), ((lit< tt), (is-start, ((subst (λ (u : Val). Is Taken-type.the-row r₃ (u ∷ [])) (ap only ((LL.tells Taken-type.the-type Taken-laws.the-laws) r₃ _ is₃)) is₃), ((subst (λ (u : Val). Is usize r₄ (u ∷ [])) (ap only ((uint-tells w64) r₄ _ is₄)) is₄), (refl, (refl, (begins w₁ r₁ is₁ f₁ w₂ r₂ is₂ f₂ w₃ r₃ is₃ f₃ w₄ r₄ is₄ f₄)))))))))))))))))))))))))))))))))))))))))))))))))))
 
-module _ {M : Type 1} (𝓤 : URA M) (H : Heap 𝓤) (A : Atoms 𝓤) (W : Given 𝓤 H A) (mem : Memory → SProp 𝓤) (run : Routine → Fun 𝓤) (𝓣 : Tables 𝓤 H) (known₁ : Triple 𝓤 (𝓣 .C #digest-leaves·span-by) (Callee₁ 𝓤 H A mem run)) (known₂ : Triple 𝓤 (𝓣 .C #digest-leaves·limit-of) (Callee₂ 𝓤 H A mem run)) (known₃ : Triple 𝓤 (𝓣 .C #digest-leaf·consume-and-update-until) (Callee₃ 𝓤 H A mem run)) (known₄ : Triple 𝓤 (𝓣 .C #digest-leaves·while-cut) (Callee₄ 𝓤 H A mem run)) (known₅ : Triple 𝓤 (𝓣 .C #digest-leaves·leaf-of) (Callee₅ 𝓤 H A mem run)) (known₆ : Triple 𝓤 (𝓣 .C #digest-give·give-leaf) (Callee₆ 𝓤 H A mem run)) where
+module _ {M : Type 1} (𝓤 : URA M) (H : Heap 𝓤) (A : Atoms 𝓤) (W : Given 𝓤 H A) (mem : Memory → SProp 𝓤) (run : Routine → Fun 𝓤) (𝓣 : Tables 𝓤 H) (known₁ : Triple 𝓤 (𝓣 .C #leaf-cut·span-of) (Callee₁ 𝓤 H A mem run)) (known₂ : Triple 𝓤 (𝓣 .C #digest-leaves·limit-of) (Callee₂ 𝓤 H A mem run)) (known₃ : Triple 𝓤 (𝓣 .C #digest-leaf·consume-and-update-until) (Callee₃ 𝓤 H A mem run)) (known₄ : Triple 𝓤 (𝓣 .C #digest-leaves·while-cut) (Callee₄ 𝓤 H A mem run)) (known₅ : Triple 𝓤 (𝓣 .C #digest-leaves·leaf-of) (Callee₅ 𝓤 H A mem run)) (known₆ : Triple 𝓤 (𝓣 .C #digest-give·give-leaf) (Callee₆ 𝓤 H A mem run)) where
   try-build-leaves-walks : Walks 𝓤 H A own.ended stayed (WpFn 𝓤 H (𝓣 .C) (𝓣 .Λ) code.function) (own.clauses 𝓤 H A mem run)
   try-build-leaves-walks = walked 𝓤 H A own.ended stayed (own.clauses 𝓤 H A mem run) (WpFn 𝓤 H (𝓣 .C) (𝓣 .Λ) code.function)
       (λ κs. (LL.vals Work-type.the-type Work-laws.the-laws, (slice-vals, (slice-vals, (slice-vals, (uint-vals w64, (LL.vals Progress-type.the-type Progress-laws.the-laws, (uint-vals w64, (slice-vals, (slice-vals, (uint-vals w64, tt))))))))))) (λ κs. (LL.tells Work-type.the-type Work-laws.the-laws, (shr-slice-tells (named 0) (κs .0) Entry-type.the-row, (shr-slice-tells (named 1) (κs .1 .0) u8, (shr-slice-tells (named 2) (κs .1 .1 .0) u8, (uint-tells w64, (LL.tells Progress-type.the-type Progress-laws.the-laws, (uint-tells w64, (mut-slice-tells (named 3) (κs .1 .1 .1 .0) u8, (mut-slice-tells (named 4) (κs .1 .1 .1 .1 .0) u8, (uint-tells w64, tt)))))))))))
@@ -611,7 +611,7 @@ try-build-leaves-spec 𝓤 H 𝓜 𝓖 𝓡 =
     entered 𝓤 H (tripleOf 𝓤 H (𝓖 .A) own.signature (own.spec 𝓤 H (𝓖 .A) (𝓜 .mem) (𝓡 .run)))
     (tables 𝓤 H 𝓜 𝓡 code.env .C) (tables 𝓤 H 𝓜 𝓡 code.env .Λ) own-key code.function (code.unfolded 𝓤 H 𝓜 𝓡)
     (try-build-leaves-meets 𝓤 H (𝓖 .A) (givenOf 𝓤 H 𝓜 𝓖) (𝓜 .mem) (𝓡 .run) (tablesOf 𝓤 H 𝓜 (tables 𝓤 H 𝓜 𝓡 code.env))
-    (cited 𝓤 H (Callee₁ 𝓤 H (𝓖 .A) (𝓜 .mem) (𝓡 .run)) 𝓜 𝓡 code.env #digest-leaves·span-by callee₁-def.routine code.calls-digest-leaves·span-by (callee₁-thm.met 𝓤 H 𝓜 𝓖 𝓡))
+    (cited 𝓤 H (Callee₁ 𝓤 H (𝓖 .A) (𝓜 .mem) (𝓡 .run)) 𝓜 𝓡 code.env #leaf-cut·span-of callee₁-def.routine code.calls-leaf-cut·span-of (callee₁-thm.met 𝓤 H 𝓜 𝓖 𝓡))
     (cited 𝓤 H (Callee₂ 𝓤 H (𝓖 .A) (𝓜 .mem) (𝓡 .run)) 𝓜 𝓡 code.env #digest-leaves·limit-of callee₂-def.routine code.calls-digest-leaves·limit-of (callee₂-thm.met 𝓤 H 𝓜 𝓖 𝓡))
     (cited 𝓤 H (Callee₃ 𝓤 H (𝓖 .A) (𝓜 .mem) (𝓡 .run)) 𝓜 𝓡 code.env #digest-leaf·consume-and-update-until callee₃-def.routine code.calls-digest-leaf·consume-and-update-until (callee₃-thm.met 𝓤 H 𝓜 𝓖 𝓡))
     (cited 𝓤 H (Callee₄ 𝓤 H (𝓖 .A) (𝓜 .mem) (𝓡 .run)) 𝓜 𝓡 code.env #digest-leaves·while-cut callee₄-def.routine code.calls-digest-leaves·while-cut (callee₄-thm.met 𝓤 H 𝓜 𝓖 𝓡))
