@@ -206,9 +206,7 @@ LeafReport leaf_ingest(LeafWork *work, LeafEntry *list, size_t list_len, uint8_t
  * Leaves a work that is done, with list and store all zeros; or one that waits for a merge, with the records that are left as inserts.
  * Refuses by: 1 to 6 for the base's page; 7; 8; 9 when waiting or done; 17 where the area is shorter than LEAF_AREA_ASKED of the pending
  * body or the tickets shorter than LEAF_TICKETS_ASKED, also where it would give no leaf.
- * Nearly all of the stack is room for 4,096 entries. A work with no more than 63 entries in use, or 68 under a cutoff, takes about a
- * twentieth of it.
- * Stack: 309,120 bytes.
+ * Stack: 3,328 bytes.
  */
 LeafGave leaf_digest(LeafWork *work, LeafEntry *list, size_t list_len, uint8_t *store, size_t store_len,
                      const uint8_t *page, size_t page_len, uint8_t *area, size_t area_len, uint8_t *tickets,
@@ -218,7 +216,7 @@ LeafGave leaf_digest(LeafWork *work, LeafEntry *list, size_t list_len, uint8_t *
  * The next base of a work that waits, or is done and has a cutoff: its separator is at or above that cutoff. The work is then open.
  * Answers 0 or the refusal; changes the work record alone.
  * Refuses by: 1 to 6 for the new page; 7; 8 when waiting or done; 9 when open, or done without a cutoff; 13; 15; 16.
- * Stack: 2,304 bytes.
+ * Stack: 2,176 bytes.
  */
 uint8_t leaf_next_base(LeafWork *work, const LeafEntry *list, size_t list_len, const uint8_t *store, size_t store_len,
                        const uint8_t *page, size_t page_len, const uint8_t separator[LEAF_KEY_SIZE], uint8_t cut,
@@ -228,7 +226,7 @@ uint8_t leaf_next_base(LeafWork *work, const LeafEntry *list, size_t list_len, c
  * Removes the cutoff of a work that waits: there is no further leaf to merge with. The work is then open, with no base.
  * Answers 0 or the refusal; changes the work record alone.
  * Refuses by: 7; 8 when waiting or done; 9 when open or done.
- * Stack: 1,920 bytes.
+ * Stack: 1,856 bytes.
  */
 uint8_t leaf_remove_cutoff(LeafWork *work, const LeafEntry *list, size_t list_len, const uint8_t *store,
                            size_t store_len);

@@ -5,18 +5,25 @@ use mathlib.Core.List.{List}
 use Prim.Native.Nat.{ℕ, _-_}
 use lib.ListN.{length, drop, replicate}
 use Rattle.leaf_node.specs.Fits.{All}
+use Rattle.leaf_model.specs.Work.{plan}
 use Rattle.leaf_work.specs.declared.Work.{Work}
 use Rattle.leaf_work.specs.declared.Entry.{Entry}
 use Rattle.leaf_work.specs.Tests.{isZero}
-use Rattle.leaf_work.specs.Lent.{blank, regarded}
+use Rattle.leaf_work.specs.Lent.{blank, cutoffOf, regarded}
 use Rattle.leaf_work.specs.Flat.{rowsOf, keysOf}
 use Rattle.leaf_work.specs.Pending.{pendingOf}
 use Rattle.leaf_work.specs.Verdict.{lentVerdict, digestVerdict}
-use Rattle.leaf_work.specs.Digest.{DigestReply, DigestRefused, Finished, Merge, Digested}
+use Rattle.leaf_work.specs.Digest.{DigestReply, DigestRefused, Finished, Merge, Digested, digestDone}
 use Rattle.leaf_give.specs.declared.Progress.{Progress}
+use Rattle.leaf_passed.specs.declared.Passing.{Passing}
+use Rattle.leaf_passed.specs.Passed.{beginningOf, passedOver}
 use Rattle.leaf_digest.specs.Reply.{gaveOut}
 use Rattle.leaf_digest.specs.Steps.{digestWorkBy, Digests}
 use Rattle.digest.specs.declared.DigestStep.{DigestStep}
+
+-- the pass went over the list
+abbrev pub WentOver : Work → List ℕ → List Entry → Passing → Type 0
+WentOver w page list at = at ≡ passedOver page (beginningOf 4096 w page) list
 
 -- a refused digest leaves the work as it was
 abbrev pub refusedStep : Work → ℕ → DigestStep
@@ -34,9 +41,17 @@ pub record Ready (size : ℕ) (w : Work) (list : List Entry) (store page area ti
   pub digests : Digests size w (rowsOf list) (keysOf list) store page area tickets
   pub unused : drop (w .used) list ≡ replicate (length list - w .used) blank
 
+-- the number that a digest earns
+abbrev pub numberOf : Work → List Entry → List ℕ → List ℕ → List ℕ → List ℕ → ℕ
+numberOf w list store page area tickets = digestVerdict 4096 w (pendingOf w list store (regarded w page)) area tickets (lentVerdict 4096 w list store page)
+
+-- the outcome of one that earns none, with the page as the work regards it
+abbrev pub outcomeOf : ℕ → Work → List Entry → List ℕ → List ℕ → List ℕ → List ℕ → Digested
+outcomeOf size w list store page area tickets = digestDone size w list store area tickets (plan size (cutoffOf w) (pendingOf w list store page))
+
 -- a digest that earns no refusal, of a list whose keys were read
 pub record Accepted (w : Work) (list : List Entry) (store page area tickets : List ℕ) : Type 0 where
-  pub none : digestVerdict 4096 w (pendingOf w list store (regarded w page)) area tickets (lentVerdict 4096 w list store page) ≡ 0
+  pub none : numberOf w list store page area tickets ≡ 0
   pub keyed : All (λ e. length (e .key) ≡ 32) list
 
 -- what a digest with the outcome o answers and leaves

@@ -19,16 +19,11 @@ ghost use mathlib.Core.Path.{_≡_};
 ghost use mathlib.Core.List.{List};
 ghost use lib.ListN.{length};
 ghost use Rattle.leaf_node.specs.Page.{count};
-ghost use Rattle.leaf_model.specs.Work.{plan};
 ghost use Rattle.leaf_work.specs.declared.Entry as declared;
-ghost use Rattle.leaf_work.specs.Lent.{cutoffOf, regarded};
-ghost use Rattle.leaf_work.specs.Pending.{pendingOf};
-ghost use Rattle.leaf_work.specs.Verdict.{lentVerdict, digestVerdict};
-ghost use Rattle.leaf_work.specs.Digest.{digestDone};
-ghost use Rattle.leaf_passed.specs.Passed.{beginningOf, passedOver};
+ghost use Rattle.leaf_work.specs.Lent.{regarded};
 ghost use Rattle.leaf_step.specs.Over.{Over};
 ghost use Rattle.digest.specs.Digests.{DigestSays};
-ghost use Rattle.digest.specs.Steps.{refusedStep, stepBy, Ready, Accepted, Made};
+ghost use Rattle.digest.specs.Steps.{WentOver, numberOf, outcomeOf, refusedStep, stepBy, Ready, Accepted, Made};
 
 // What a digest answers, and the work record that it leaves.
 pub struct DigestStep {
@@ -49,7 +44,7 @@ fn digest_number(
     tickets: &[u8],
 ) -> u8
     requires { ⌜ Over work (now page) at entries ⌝ }
-    ensures { λ r. ⌜ ((list : List declared.Entry) → length list ≡ entries → at ≡ passedOver (now (page .entry)) (beginningOf 4096 work (now (page .entry))) list → r ≡ digestVerdict 4096 work (pendingOf work list (now (store .entry)) (regarded work (now (page .entry)))) (now (area .entry)) (now (tickets .entry)) (lentVerdict 4096 work list (now (store .entry)) (now (page .entry)))) ⌝ }
+    ensures { λ r. ⌜ ((list : List declared.Entry) → length list ≡ entries → WentOver work (now (page .entry)) list at → r ≡ numberOf work list (now (store .entry)) (now (page .entry)) (now (area .entry)) (now (tickets .entry))) ⌝ }
 {
     let lent = lent_at(work, at, entries, store, page, PAGE_SIZE);
     turn_verdict(work, lent, page, area, tickets, PAGE_SIZE)
@@ -113,7 +108,7 @@ pub fn digest_ready(
     size: usize,
 ) -> DigestStep
     requires { ⌜ (Ready size work (now list) (now store) (now page) (now area) (now tickets)) × (n ≡ count (now page)) ⌝ }
-    ensures { λ r. ⌜ Made (digestDone size work (now (list .entry)) (now (store .entry)) (now (area .entry)) (now (tickets .entry)) (plan size (cutoffOf work) (pendingOf work (now (list .entry)) (now (store .entry)) (now (page .entry))))) r (now (list .exit)) (now (store .exit)) (now (area .exit)) (now (tickets .exit)) ⌝ }
+    ensures { λ r. ⌜ Made (outcomeOf size work (now (list .entry)) (now (store .entry)) (now (page .entry)) (now (area .entry)) (now (tickets .entry))) r (now (list .exit)) (now (store .exit)) (now (area .exit)) (now (tickets .exit)) ⌝ }
 {
     let p = give_leaves(work, list, store, page, n, area, tickets, size);
     prepare_merge_ops(work, list, store, page, n, p.at, p.left);

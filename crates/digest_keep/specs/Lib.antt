@@ -1,2 +1,3 @@
--- Records raised to the end of list and store, one after the other.
+-- Records raised to the end of list and store, one after the other, and kept at their start.
 pub mod Lifting
+pub mod Keeping

@@ -29,21 +29,18 @@ use leaf_work::Work;
 use leaf_write::base_key;
 ghost use mathlib.Core.Path.{_≡_};
 ghost use mathlib.Core.List.{_++_};
-ghost use Prim.Native.Nat.{_+_, _-_, _≤_, _<_};
-ghost use lib.ListN.{length, take, drop, replicate};
-ghost use Rattle.bit_ops.specs.Steps.{zeros};
-ghost use Rattle.leaf_node.specs.Record.{values, total};
-ghost use Rattle.leaf_node.specs.Page.{count, recordAt};
+ghost use Prim.Native.Nat.{_+_, _-_, _≤_};
+ghost use lib.ListN.{length, take, drop};
+ghost use Rattle.leaf_node.specs.Page.{recordAt};
 ghost use Rattle.leaf_work.specs.Tests.{bit};
 ghost use Rattle.leaf_work.specs.Lent.{blank, insertAt};
-ghost use Rattle.leaf_work.specs.Flat.{rowOf, rowsOf, keysOf};
-ghost use Rattle.leaf_cut.specs.Records.{recordsFrom};
+ghost use Rattle.leaf_work.specs.Flat.{rowOf};
 ghost use Rattle.leaf_write.specs.Filling.{insertRecord, InsertIn};
-ghost use Rattle.leaf_move.specs.Moving.{under, lowered, settled};
-ghost use Rattle.leaf_raise.specs.Raising.{lowerBy, RecordThere};
-ghost use Rattle.leaf_merge.specs.Lifting.{fullTop, skipAt, Raises};
-ghost use Rattle.leaf_merge.specs.Keeping.{keptRecords, keptList, Keeps};
-ghost use Rattle.digest_keep.specs.Lifting.{liftedOf, lastRecord, RoomFor, LastThere, partRecords, RaisedIn, Raisable, placeBefore, partOf, RestThere, roomBy};
+ghost use Rattle.leaf_move.specs.Moving.{lowered, settled};
+ghost use Rattle.leaf_raise.specs.Raising.{RecordThere};
+ghost use Rattle.leaf_merge.specs.Lifting.{fullTop};
+ghost use Rattle.digest_keep.specs.Lifting.{LiftedTo, lastRecord, RoomFor, LastThere, partRecords, RaisedIn, RaisedTo, Raisable, placeBefore, partOf, RestThere, recordsOn, RaisesIn, roomBy};
+ghost use Rattle.digest_keep.specs.Keeping.{KeepsIn, KeptIn};
 
 // ---- one record: its value in the store, and the entry that lists it
 
@@ -76,7 +73,7 @@ fn listed_below(key: &[u8; 32], flag: bool, next: Top, end: usize) -> Lifted
 // Raises a record, whose value is copied into the store.
 fn lift_record(key: &[u8; 32], value: &[u8], flag: bool, store: &mut [u8], top: Top) -> Lifted
     requires { ⌜ RoomFor (length (now store)) top (length (now value)) ⌝ }
-    ensures { λ r. ⌜ (r ≡ liftedOf top (record { key = now (key .entry); value = now (value .entry); flag = flag })) × (now (store .exit) ≡ under (now (store .entry)) (top .at) (now (value .entry))) ⌝ }
+    ensures { λ r. ⌜ LiftedTo (now (store .entry)) top (record { key = now (key .entry); value = now (value .entry); flag = flag }) r (now (store .exit)) ⌝ }
 {
     let next = lower(top, value.len());
     copy_in(value, store, next.at);
@@ -86,7 +83,7 @@ fn lift_record(key: &[u8; 32], value: &[u8], flag: bool, store: &mut [u8], top: 
 // Raises record i of the base.
 fn lift_base(page: &[u8], i: usize, store: &mut [u8], top: Top) -> Lifted
     requires { ⌜ (RecordThere (now page) i) × (RoomFor (length (now store)) top (length (recordAt (now page) i .value))) ⌝ }
-    ensures { λ r. ⌜ (r ≡ liftedOf top (recordAt (now (page .entry)) i)) × (now (store .exit) ≡ under (now (store .entry)) (top .at) (recordAt (now (page .entry)) i .value)) ⌝ }
+    ensures { λ r. ⌜ LiftedTo (now (store .entry)) top (recordAt (now (page .entry)) i) r (now (store .exit)) ⌝ }
 {
     let cell = cell_at(page, i);
     let key = base_key(page, i);
@@ -98,7 +95,7 @@ fn lift_base(page: &[u8], i: usize, store: &mut [u8], top: Top) -> Lifted
 // Raises an insert, whose value is moved up within the store.
 fn lift_insert(entry: Entry, store: &mut [u8], top: Top) -> Lifted
     requires { ⌜ (InsertIn (rowOf entry) (top .at)) × (RoomFor (length (now store)) top (length (insertRecord (now store) (rowOf entry) (entry .key) .value))) ⌝ }
-    ensures { λ r. ⌜ (r ≡ liftedOf top (insertRecord (now (store .entry)) (rowOf entry) (entry .key))) × (now (store .exit) ≡ under (now (store .entry)) (top .at) (insertRecord (now (store .entry)) (rowOf entry) (entry .key) .value)) ⌝ }
+    ensures { λ r. ⌜ LiftedTo (now (store .entry)) top (insertRecord (now (store .entry)) (rowOf entry) (entry .key)) r (now (store .exit)) ⌝ }
 {
     let from = entry.from;
     let to = entry.to;
@@ -111,7 +108,7 @@ fn lift_insert(entry: Entry, store: &mut [u8], top: Top) -> Lifted
 // Raises an entry's last record but i.
 fn lift_last(part: Entry, page: &[u8], i: usize, store: &mut [u8], top: Top) -> Lifted
     requires { ⌜ LastThere (now store) (now page) part i top ⌝ }
-    ensures { λ r. ⌜ (r ≡ liftedOf top (lastRecord (now (store .entry)) (now (page .entry)) part i)) × (now (store .exit) ≡ under (now (store .entry)) (top .at) (lastRecord (now (store .entry)) (now (page .entry)) part i .value)) ⌝ }
+    ensures { λ r. ⌜ LiftedTo (now (store .entry)) top (lastRecord (now (store .entry)) (now (page .entry)) part i) r (now (store .exit)) ⌝ }
 {
     if part.kind == 1 {
         return lift_insert(part, store, top);
@@ -124,7 +121,7 @@ fn lift_last(part: Entry, page: &[u8], i: usize, store: &mut [u8], top: Top) -> 
 // Raises an entry's records, the last one first.
 fn raise_entry(part: Entry, page: &[u8], list: &mut [Entry], store: &mut [u8], start: Top) -> Top
     requires { ⌜ Raisable (now list) (now store) (now page) part start ⌝ }
-    ensures { λ r. ⌜ (RaisedIn (now (list .entry)) (now (store .entry)) start (partRecords (now (store .entry)) (now (page .entry)) part) (now (list .exit)) (now (store .exit))) × (r ≡ lowerBy start (length (partRecords (now (store .entry)) (now (page .entry)) part)) (total (partRecords (now (store .entry)) (now (page .entry)) part))) ⌝ }
+    ensures { λ r. ⌜ RaisedTo (now (list .entry)) (now (store .entry)) start (partRecords (now (store .entry)) (now (page .entry)) part) r (now (list .exit)) (now (store .exit)) ⌝ }
 {
     let records = records_in_entry(part);
     let mut top = start;
@@ -193,8 +190,8 @@ fn raise(
     bytes: usize,
     room: usize,
 )
-    requires { ⌜ Raises (rowsOf (now list)) (keysOf (now list)) (now store) (now page) span at bytes room ⌝ }
-    ensures { λ _. ⌜ RaisedIn (now (list .entry)) (now (store .entry)) (fullTop room (now (store .entry)) bytes) (recordsFrom span (rowsOf (now (list .entry))) (keysOf (now (list .entry))) (now (store .entry)) (now (page .entry)) at) (now (list .exit)) (now (store .exit)) ⌝ }
+    requires { ⌜ RaisesIn (now list) (now store) (now page) span at bytes room ⌝ }
+    ensures { λ _. ⌜ RaisedIn (now (list .entry)) (now (store .entry)) (fullTop room (now (store .entry)) bytes) (recordsOn (now (list .entry)) (now (store .entry)) (now (page .entry)) span at) (now (list .exit)) (now (store .exit)) ⌝ }
 {
     let full = full_top(room, bytes, store.len());
     let parts = parts_from(span, at);
@@ -269,8 +266,8 @@ pub fn prepare_merge_ops(
     at: Cursor,
     left: Gauge,
 )
-    requires { ⌜ (Keeps work (rowsOf (now list)) (keysOf (now list)) (now store) (now page) at left (roomBy (work .used) (left .count) (length (now list)))) × (n ≡ count (now page)) × (drop (work .used) (now list) ≡ replicate (length (now list) - work .used) blank) ⌝ }
-    ensures { λ _. ⌜ (now (list .exit) ≡ keptList work (rowsOf (now (list .entry))) (keysOf (now (list .entry))) (now (store .entry)) (now (page .entry)) at (length (now (list .entry)))) × (now (store .exit) ≡ values (keptRecords work (rowsOf (now (list .entry))) (keysOf (now (list .entry))) (now (store .entry)) (now (page .entry)) at) ++ zeros (length (now (store .entry)) - total (keptRecords work (rowsOf (now (list .entry))) (keysOf (now (list .entry))) (now (store .entry)) (now (page .entry)) at))) ⌝ }
+    requires { ⌜ KeepsIn work (now list) (now store) (now page) at n left ⌝ }
+    ensures { λ _. ⌜ KeptIn work (now (list .entry)) (now (store .entry)) (now (page .entry)) at (now (list .exit)) (now (store .exit)) ⌝ }
 {
     let span = span_of(work, n);
     let room = room_by(work.used, left.count, list.len());

@@ -42,11 +42,9 @@ use denote.Signature.{plain}
 use Rattle.digest.specs.Digests.{DigestSays}
 use Rattle.leaf_passed.specs.Passed.{PassingOn, beginningOf, passedOver}
 use Rattle.leaf_node.specs.Fits.{All}
-use Rattle.leaf_work.specs.Lent.{regarded}
-use Rattle.leaf_work.specs.Pending.{pendingOf}
-use Rattle.leaf_work.specs.Verdict.{lentVerdict, digestVerdict}
 use Rattle.leaf_step.specs.Over.{Over}
-use Rattle.digest.specs.Steps.{refusedStep, Accepted}
+use Rattle.digest.specs.Steps.{WentOver, numberOf, refusedStep, Accepted}
+use Rattle.leaf_work.specs.Lent.{regarded}
 use Rattle.digest.proofs.Calls.{a-refused-digest-changes-nothing, nothing-is-earned}
 use denote.Struct.Laws as LL
 use Rattle.leaf_entries.proofs.Locals.{tyAt}
@@ -175,7 +173,7 @@ module _ {M : Type 1} (𝓤 : URA M) (H : Heap 𝓤) (A : Atoms 𝓤) (W : Given
         qed W (‵ (flft κ₀ q₀) ∷ ‵ (flft κ₁ q₁) ∷ ‵ (flft κ₂ q₂) ∷ ‵ (flft κ₃ q₃) ∷ ‵ (ShrSlice (named 0) κ₀ u8 .own (record { ptr = (b-store, o-store); name = γ-store; now = store }) (sliceVal (b-store, o-store) n-store ∷ [])) ∷ ‵ (ShrSlice (named 1) κ₁ u8 .own (record { ptr = (b-page, o-page); name = γ-page; now = page }) (sliceVal (b-page, o-page) n-page ∷ [])) ∷ ‵ (ShrSlice (named 2) κ₂ u8 .own (record { ptr = (b-area, o-area); name = γ-area; now = area }) (sliceVal (b-area, o-area) n-area ∷ [])) ∷ ‵ (ShrSlice (named 3) κ₃ u8 .own (record { ptr = (b-tickets, o-tickets); name = γ-tickets; now = tickets }) (sliceVal (b-tickets, o-tickets) n-tickets ∷ [])) ∷ []) ∵ k-says ! req $ k-nothing ! $ k-move ! (8 ∷ 0 ∷ []) $ k-fjoin ! $ k-move ! (7 ∷ 0 ∷ []) $ k-fjoin ! $ k-move ! (6 ∷ 0 ∷ []) $ k-fjoin ! $ k-move ! (5 ∷ 0 ∷ []) $ k-fjoin ! $ k-owned ! usize (Is usize) (uint-makes 𝓤 H A W w64) entries _ is-entries $ k-fjoin ! $ k-owned ! Passing-type.the-row (Is Passing-type.the-row) (LL.makes Passing-type.the-type Passing-laws.the-plain 𝓤 H A) at _ is-at $ k-fjoin ! $ k-owned ! Work-type.the-row (Is Work-type.the-row) (LL.makes Work-type.the-type Work-laws.the-plain 𝓤 H A) work _ is-work $ k-fjoin ! $ k-nothing ! $ k-move ! (5 ∷ 0 ∷ []) $ k-join ! $ k-move ! (4 ∷ 0 ∷ []) $ k-join ! $ k-move ! (3 ∷ 0 ∷ []) $ k-join ! $ k-move ! (2 ∷ 0 ∷ []) $ k-join ! $ k-frame ! $ k-done !
 
   abbrev Said₃ : (work : Work) (at : Passing) (entries : ℕ) (store : List ℕ) (page : List ℕ) (area : List ℕ) (tickets : List ℕ) (r : ℕ) → Type 0
-  Said₃ work at entries store page area tickets r = ((list : List declared.Entry) → length list ≡ entries → at ≡ passedOver (page) (beginningOf 4096 work (page)) list → r ≡ digestVerdict 4096 work (pendingOf work list (store) (regarded work (page))) (area) (tickets) (lentVerdict 4096 work list (store) (page)))
+  Said₃ work at entries store page area tickets r = ((list : List declared.Entry) → length list ≡ entries → WentOver work (page) list at → r ≡ numberOf work list (store) (page) (area) (tickets))
 
   -- `refused_digest`, whatever it is called with
   module _ (work : Work) (w-work : Val) (number : ℕ) (w-number : Val) where

@@ -38,15 +38,12 @@ use denote.Triple.Table.{entered, cited}
 use denote.Triple.Walked.{needs, Stays, stay-none, stay-none-slice, gave-slice, walkOf, goes-none, goes-none-slice, goes-gave-slice, Walks, ends-at, walked, walk-meets, says as k-says}
 use denote.Exit.{yes}
 use denote.Signature.{plain}
-use Rattle.leaf_work.specs.Lent.{regarded, cutoffOf}
+use Rattle.leaf_work.specs.Lent.{regarded}
 use Rattle.digest.specs.Digests.{DigestSays}
-use Rattle.digest.specs.Steps.{Accepted, Ready, Made}
+use Rattle.digest.specs.Steps.{Accepted, outcomeOf, Ready, Made}
 use Rattle.leaf_node.specs.Limits.{PageSize}
 use Rattle.leaf_node.specs.Page.{count}
 use Rattle.leaf_check.specs.Settled.{Regardable}
-use Rattle.leaf_model.specs.Work.{plan}
-use Rattle.leaf_work.specs.Pending.{pendingOf}
-use Rattle.leaf_work.specs.Digest.{digestDone}
 use Rattle.digest.proofs.Calls.{they-are-there, its-page-can-be-counted, it-is-ready, an-accepted-digest-makes-its-outcome}
 use denote.Struct.Laws as LL
 use Rattle.leaf_entries.proofs.Locals.{tyAt}
@@ -127,7 +124,7 @@ module _ {M : Type 1} (𝓤 : URA M) (H : Heap 𝓤) (A : Atoms 𝓤) (W : Given
         qed W (‵ (flft κ₀ q₀) ∷ ‵ (flft κ₁ q₁) ∷ ‵ (flft κ₂ q₂) ∷ ‵ (flft κ₃ q₃) ∷ ‵ (flft κ₄ q₄) ∷ ‵ (MutSlice (named 0) κ₀ Entry-type.the-row .own (record { ptr = (b-list, o-list); name = γ-list; now = list }) (sliceVal (b-list, o-list) n-list ∷ [])) ∷ ‵ (MutSlice (named 1) κ₁ u8 .own (record { ptr = (b-store, o-store); name = γ-store; now = store }) (sliceVal (b-store, o-store) n-store ∷ [])) ∷ ‵ (ShrSlice (named 2) κ₂ u8 .own (record { ptr = (b-page, o-page); name = γ-page; now = page }) (sliceVal (b-page, o-page) n-page ∷ [])) ∷ ‵ (MutSlice (named 3) κ₃ u8 .own (record { ptr = (b-area, o-area); name = γ-area; now = area }) (sliceVal (b-area, o-area) n-area ∷ [])) ∷ ‵ (MutSlice (named 4) κ₄ u8 .own (record { ptr = (b-tickets, o-tickets); name = γ-tickets; now = tickets }) (sliceVal (b-tickets, o-tickets) n-tickets ∷ [])) ∷ []) ∵ k-says ! req $ k-nothing ! $ k-owned ! usize (Is usize) (uint-makes 𝓤 H A W w64) size _ is-size $ k-fjoin ! $ k-move ! (10 ∷ 0 ∷ []) $ k-fjoin ! $ k-move ! (9 ∷ 0 ∷ []) $ k-fjoin ! $ k-owned ! usize (Is usize) (uint-makes 𝓤 H A W w64) n _ is-n $ k-fjoin ! $ k-move ! (8 ∷ 0 ∷ []) $ k-fjoin ! $ k-move ! (7 ∷ 0 ∷ []) $ k-fjoin ! $ k-move ! (6 ∷ 0 ∷ []) $ k-fjoin ! $ k-owned ! Work-type.the-row (Is Work-type.the-row) (LL.makes Work-type.the-type Work-laws.the-plain 𝓤 H A) work _ is-work $ k-fjoin ! $ k-nothing ! $ k-move ! (6 ∷ 0 ∷ []) $ k-join ! $ k-move ! (5 ∷ 0 ∷ []) $ k-join ! $ k-move ! (4 ∷ 0 ∷ []) $ k-join ! $ k-move ! (3 ∷ 0 ∷ []) $ k-join ! $ k-move ! (2 ∷ 0 ∷ []) $ k-join ! $ k-frame ! $ k-done !
 
   abbrev Said₂ : (work : Work) (list : List Entry) (store : List ℕ) (page : List ℕ) (n : ℕ) (area : List ℕ) (tickets : List ℕ) (size : ℕ) (r : DigestStep) (list-exit : List Entry) (store-exit : List ℕ) (area-exit : List ℕ) (tickets-exit : List ℕ) → Type 0
-  Said₂ work list store page n area tickets size r list-exit store-exit area-exit tickets-exit = Made (digestDone size work (list) (store) (area) (tickets) (plan size (cutoffOf work) (pendingOf work (list) (store) (page)))) r (list-exit) (store-exit) (area-exit) (tickets-exit)
+  Said₂ work list store page n area tickets size r list-exit store-exit area-exit tickets-exit = Made (outcomeOf size work (list) (store) (page) (area) (tickets)) r (list-exit) (store-exit) (area-exit) (tickets-exit)
 
 module _ {M : Type 1} (𝓤 : URA M) (H : Heap 𝓤) (A : Atoms 𝓤) (W : Given 𝓤 H A) (at-mem : Memory → SProp 𝓤) (run : Routine → Fun 𝓤)
     (κ₀ κ₁ κ₂ κ₃ κ₄ : Lft) (q₀ q₁ q₂ q₃ q₄ : Share) (work : Work) (is-work : Is Work-type.the-row work (mach-Work work ∷ [])) (b-list o-list : ℕ) (γ-list : GName) (list : List Entry) (room-list : Room Entry-type.the-row (length list)) (b-store o-store : ℕ) (γ-store : GName) (store : List ℕ) (room-store : Room u8 (length store)) (b-page o-page : ℕ) (γ-page : GName) (page : List ℕ) (room-page : Room u8 (length page)) (base : ℕ) (base-fits : base < 2 ^ 64) (b-area o-area : ℕ) (γ-area : GName) (area : List ℕ) (room-area : Room u8 (length area)) (b-tickets o-tickets : ℕ) (γ-tickets : GName) (tickets : List ℕ) (room-tickets : Room u8 (length tickets)) (req : (Accepted work (list) (store) (page) (area) (tickets)) × (base ≡ length (regarded work (page)))) where

@@ -46,7 +46,6 @@ use denote.Triple.Table.{entered, cited}
 use denote.Triple.Walked.{needs, Stays, stay-none, stay-slice, walkOf, goes-none, goes-slice, Walks, ends-at, walked, walk-meets, says as k-says}
 use denote.Exit.{yes}
 use denote.Signature.{plain}
-use Rattle.leaf_node.specs.Page.{count}
 use Rattle.leaf_move.specs.Moving.{lowered}
 use Rattle.leaf_work.specs.Lent.{blank}
 use Rattle.leaf_move.proofs.Forward.{Lowering, none-is-lowered, one-more-is-lowered, all-are-lowered}

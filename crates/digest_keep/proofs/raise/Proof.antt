@@ -46,14 +46,10 @@ use denote.Triple.Table.{entered, cited}
 use denote.Triple.Walked.{needs, Stays, stay-none, stay-none-slice, stay-slice, walkOf, goes-none, goes-none-slice, goes-slice, Walks, ends-at, walked, walk-meets, says as k-says}
 use denote.Exit.{yes}
 use denote.Signature.{plain}
-use Rattle.leaf_work.specs.Flat.{rowsOf, keysOf}
-use Rattle.leaf_cut.specs.Records.{recordsFrom}
-use Rattle.leaf_merge.specs.Lifting.{fullTop, Raises}
-use Rattle.digest_keep.specs.Lifting.{RaisedIn, placeBefore, partOf, RestThere, partRecords, Raisable}
+use Rattle.leaf_merge.specs.Lifting.{fullTop}
+use Rattle.digest_keep.specs.Lifting.{RaisedIn, recordsOn, RaisesIn, placeBefore, partOf, RestThere, partRecords, RaisedTo, Raisable}
 use Rattle.leaf_work.specs.Lent.{blank}
 use Rattle.leaf_entries.specs.Lists.{behindOf}
-use Rattle.leaf_node.specs.Record.{total}
-use Rattle.leaf_raise.specs.Raising.{lowerBy}
 use Rattle.digest_keep.proofs.Parts.{PartsRaised, no-part-is-raised, the-part-has-a-cursor, the-rest-is-there, the-part-can-be-raised, one-part-more-is-raised, all-parts-are-raised}
 use denote.Struct.Laws as LL
 use Rattle.leaf_entries.proofs.Locals.{tyAt}
@@ -226,10 +222,10 @@ module _ {M : Type 1} (𝓤 : URA M) (H : Heap 𝓤) (A : Atoms 𝓤) (W : Given
         qed W (‵ (flft κ₀ q₀) ∷ ‵ (flft κ₁ q₁) ∷ ‵ (flft κ₂ q₂) ∷ ‵ (ShrSlice (named 0) κ₀ u8 .own (record { ptr = (b-page, o-page); name = γ-page; now = page }) (sliceVal (b-page, o-page) n-page ∷ [])) ∷ ‵ (MutSlice (named 1) κ₁ Entry-type.the-row .own (record { ptr = (b-list, o-list); name = γ-list; now = list }) (sliceVal (b-list, o-list) n-list ∷ [])) ∷ ‵ (MutSlice (named 2) κ₂ u8 .own (record { ptr = (b-store, o-store); name = γ-store; now = store }) (sliceVal (b-store, o-store) n-store ∷ [])) ∷ []) ∵ k-says ! req $ k-nothing ! $ k-owned ! Top-type.the-row (Is Top-type.the-row) (LL.makes Top-type.the-type Top-laws.the-plain 𝓤 H A) start _ is-start $ k-fjoin ! $ k-move ! (6 ∷ 0 ∷ []) $ k-fjoin ! $ k-move ! (5 ∷ 0 ∷ []) $ k-fjoin ! $ k-move ! (4 ∷ 0 ∷ []) $ k-fjoin ! $ k-owned ! Entry-type.the-row (Is Entry-type.the-row) (LL.makes Entry-type.the-type Entry-laws.the-plain 𝓤 H A) part _ is-part $ k-fjoin ! $ k-nothing ! $ k-move ! (4 ∷ 0 ∷ []) $ k-join ! $ k-move ! (3 ∷ 0 ∷ []) $ k-join ! $ k-move ! (2 ∷ 0 ∷ []) $ k-join ! $ k-frame ! $ k-done !
 
   abbrev Said₆ : (part : Entry) (page : List ℕ) (list : List Entry) (store : List ℕ) (start : Top) (r : Top) (list-exit : List Entry) (store-exit : List ℕ) → Type 0
-  Said₆ part page list store start r list-exit store-exit = (RaisedIn (list) (store) start (partRecords (store) (page) part) (list-exit) (store-exit)) × (r ≡ lowerBy start (length (partRecords (store) (page) part)) (total (partRecords (store) (page) part)))
+  Said₆ part page list store start r list-exit store-exit = RaisedTo (list) (store) start (partRecords (store) (page) part) r (list-exit) (store-exit)
 
 module _ {M : Type 1} (𝓤 : URA M) (H : Heap 𝓤) (A : Atoms 𝓤) (W : Given 𝓤 H A) (at-mem : Memory → SProp 𝓤) (run : Routine → Fun 𝓤)
-    (κ₀ κ₁ κ₂ : Lft) (q₀ q₁ q₂ : Share) (b-list o-list : ℕ) (γ-list : GName) (list : List Entry) (room-list : Room Entry-type.the-row (length list)) (b-store o-store : ℕ) (γ-store : GName) (store : List ℕ) (room-store : Room u8 (length store)) (b-page o-page : ℕ) (γ-page : GName) (page : List ℕ) (room-page : Room u8 (length page)) (span : Span) (is-span : Is Span-type.the-row span (mach-Span span ∷ [])) (at : Cursor) (is-at : Is Cursor-type.the-row at (mach-Cursor at ∷ [])) (bytes : ℕ) (bytes-fits : bytes < 2 ^ 64) (room : ℕ) (room-fits : room < 2 ^ 64) (req : Raises (rowsOf (list)) (keysOf (list)) (store) (page) span at bytes room) where
+    (κ₀ κ₁ κ₂ : Lft) (q₀ q₁ q₂ : Share) (b-list o-list : ℕ) (γ-list : GName) (list : List Entry) (room-list : Room Entry-type.the-row (length list)) (b-store o-store : ℕ) (γ-store : GName) (store : List ℕ) (room-store : Room u8 (length store)) (b-page o-page : ℕ) (γ-page : GName) (page : List ℕ) (room-page : Room u8 (length page)) (span : Span) (is-span : Is Span-type.the-row span (mach-Span span ∷ [])) (at : Cursor) (is-at : Is Cursor-type.the-row at (mach-Cursor at ∷ [])) (bytes : ℕ) (bytes-fits : bytes < 2 ^ 64) (room : ℕ) (room-fits : room < 2 ^ 64) (req : RaisesIn (list) (store) (page) span at bytes room) where
   abbrev ref-list : List Entry → RefT (List Entry)
   ref-list zs = record { ptr = (b-list, o-list); name = γ-list; now = zs }
 
@@ -266,7 +262,7 @@ module _ {M : Type 1} (𝓤 : URA M) (H : Heap 𝓤) (A : Atoms 𝓤) (W : Given
   abbrev Post : Val → SProp 𝓤
   Post = walkOf 𝓤 H A own.ended stayed (own.clauses 𝓤 H A at-mem run) .post (((κ₀, (κ₁, (κ₂, tt))), (q₀, (q₁, (q₂, tt))), tt, the-args, the-vals), tt)
 
-  the-exit : (list-exit : List Entry) → length list-exit ≡ length list → (store-exit : List ℕ) → length store-exit ≡ length store → (RaisedIn (list) (store) (fullTop room (store) bytes) (recordsFrom span (rowsOf (list)) (keysOf (list)) (store) (page) at) (list-exit) (store-exit)) → ent 𝓤 (⋆ 𝓤 H A (‵ (flft κ₀ q₀) ∷ ‵ (flft κ₁ q₁) ∷ ‵ (flft κ₂ q₂) ∷ ‵ (Own-list list-exit) ∷ ‵ (Own-store store-exit) ∷ ‵ (Own-page page) ∷ [])) (Post vunit)
+  the-exit : (list-exit : List Entry) → length list-exit ≡ length list → (store-exit : List ℕ) → length store-exit ≡ length store → (RaisedIn (list) (store) (fullTop room (store) bytes) (recordsOn (list) (store) (page) span at) (list-exit) (store-exit)) → ent 𝓤 (⋆ 𝓤 H A (‵ (flft κ₀ q₀) ∷ ‵ (flft κ₁ q₁) ∷ ‵ (flft κ₂ q₂) ∷ ‵ (Own-list list-exit) ∷ ‵ (Own-store store-exit) ∷ ‵ (Own-page page) ∷ [])) (Post vunit)
   the-exit list-exit len-list store-exit len-store fact-of =
       qed W (‵ (flft κ₀ q₀) ∷ ‵ (flft κ₁ q₁) ∷ ‵ (flft κ₂ q₂) ∷ ‵ (Own-list list-exit) ∷ ‵ (Own-store store-exit) ∷ ‵ (Own-page page) ∷ []) ∵ k-suffices ! _ (ends-at 𝓤 H A own.ended stayed (own.clauses 𝓤 H A at-mem run) W (((κ₀, (κ₁, (κ₂, tt))), (q₀, (q₁, (q₂, tt))), tt, the-args, the-vals), tt) vunit tt (list-exit, (store-exit, (tt, (tt, (tt, (tt, (tt, tt))))))) (len-list, (len-store, (tt, (tt, (tt, (tt, (tt, tt)))))))) $ k-says ! fact-of $ k-nothing ! $ k-move ! (3 ∷ 0 ∷ []) $ k-join ! $ k-move ! (2 ∷ 0 ∷ []) $ k-join ! $ k-move ! (1 ∷ 0 ∷ []) $ k-join ! $ k-frame ! $ k-nothing ! $ k-owned ! usize (Is usize) (uint-makes 𝓤 H A W w64) room _ (refl, room-fits) $ k-fjoin ! $ k-owned ! usize (Is usize) (uint-makes 𝓤 H A W w64) bytes _ (refl, bytes-fits) $ k-fjoin ! $ k-owned ! Cursor-type.the-row (Is Cursor-type.the-row) (LL.makes Cursor-type.the-type Cursor-laws.the-plain 𝓤 H A) at _ is-at $ k-fjoin ! $ k-owned ! Span-type.the-row (Is Span-type.the-row) (LL.makes Span-type.the-type Span-laws.the-plain 𝓤 H A) span _ is-span $ k-fjoin ! $ k-move ! (3 ∷ 0 ∷ []) $ k-fjoin ! $ k-move ! (2 ∷ 0 ∷ []) $ k-fjoin ! $ k-move ! (1 ∷ 0 ∷ []) $ k-fjoin ! $ k-feqI ! (List Val) (vunit ∷ []) (vunit ∷ []) refl $ k-move ! (1 ∷ 0 ∷ []) $ k-done !
 
@@ -307,7 +303,7 @@ module _ {M : Type 1} (𝓤 : URA M) (H : Heap 𝓤) (A : Atoms 𝓤) (W : Given
     steps i S less known len-list len-store r₃ f₃ r₄ f₄ r₅ f₅ r₆ zs₆ f₆ =
         one-part-more-is-raised list store page span at bytes room req r₂ f₂ (list-list S) (list-store S) (state₀ S) i known less r₃ f₃ r₄ f₄ r₅ f₅ r₆ (zs₆ .1 .1 .0) (zs₆ .1 .1 .1 .0) f₆
 
-    ends : (i : ℕ) (S : St) → r₂ ≤ i → Known i S → length (list-list S) ≡ length list → length (list-store S) ≡ length store → RaisedIn (list) (store) (fullTop room (store) bytes) (recordsFrom span (rowsOf (list)) (keysOf (list)) (store) (page) at) ((list-list S)) ((list-store S))
+    ends : (i : ℕ) (S : St) → r₂ ≤ i → Known i S → length (list-list S) ≡ length list → length (list-store S) ≡ length store → RaisedIn (list) (store) (fullTop room (store) bytes) (recordsOn (list) (store) (page) span at) ((list-list S)) ((list-store S))
     ends i S past known len-list len-store = all-parts-are-raised list store page span at bytes room req r₂ f₂ (list-list S) (list-store S) (state₀ S) i known past
 
     module _ (𝓣 : Tables 𝓤 H) (known₁ : Triple 𝓤 (𝓣 .C #digest-keep·full-top) (Callee₁ 𝓤 H A at-mem run)) (known₂ : Triple 𝓤 (𝓣 .C #digest-keep·parts-from) (Callee₂ 𝓤 H A at-mem run)) (known₃ : Triple 𝓤 (𝓣 .C #digest-keep·place-before) (Callee₃ 𝓤 H A at-mem run)) (known₄ : Triple 𝓤 (𝓣 .C #leaf-entries·split) (Callee₄ 𝓤 H A at-mem run)) (known₅ : Triple 𝓤 (𝓣 .C #digest-keep·part-of) (Callee₅ 𝓤 H A at-mem run)) (known₆ : Triple 𝓤 (𝓣 .C #digest-keep·raise-entry) (Callee₆ 𝓤 H A at-mem run)) where
@@ -506,7 +502,7 @@ module _ {M : Type 1} (𝓤 : URA M) (H : Heap 𝓤) (A : Atoms 𝓤) (W : Given
   raise-walks : Walks 𝓤 H A own.ended stayed (WpFn 𝓤 H (𝓣 .C) (𝓣 .Λ) code.function) (own.clauses 𝓤 H A mem run)
   raise-walks = walked 𝓤 H A own.ended stayed (own.clauses 𝓤 H A mem run) (WpFn 𝓤 H (𝓣 .C) (𝓣 .Λ) code.function)
       (λ κs. (slice-vals, (slice-vals, (slice-vals, (LL.vals Span-type.the-type Span-laws.the-laws, (LL.vals Cursor-type.the-type Cursor-laws.the-laws, (uint-vals w64, (uint-vals w64, tt)))))))) (λ κs. (mut-slice-tells (named 0) (κs .0) Entry-type.the-row, (mut-slice-tells (named 1) (κs .1 .0) u8, (shr-slice-tells (named 2) (κs .1 .1 .0) u8, (LL.tells Span-type.the-type Span-laws.the-laws, (LL.tells Cursor-type.the-type Cursor-laws.the-laws, (uint-tells w64, (uint-tells w64, tt))))))))
-      (λ κs qs bounds a g are. needs 𝓤 (Raises (rowsOf ((a .0 .now))) (keysOf ((a .0 .now))) ((a .1 .0 .now)) ((a .1 .1 .0 .now)) (a .1 .1 .1 .0) (a .1 .1 .1 .1 .0) (a .1 .1 .1 .1 .1 .0) (a .1 .1 .1 .1 .1 .1 .0)) _ (λ req. walk 𝓤 H A W mem run (κs .0) (κs .1 .0) (κs .1 .1 .0) (qs .0) (qs .1 .0) (qs .1 .1 .0) (a .0 .ptr .0) (a .0 .ptr .1) (a .0 .name) (a .0 .now) (are .0 .0 .1) (a .1 .0 .ptr .0) (a .1 .0 .ptr .1) (a .1 .0 .name) (a .1 .0 .now) (are .1 .0 .0 .1) (a .1 .1 .0 .ptr .0) (a .1 .1 .0 .ptr .1) (a .1 .1 .0 .name) (a .1 .1 .0 .now) (are .1 .1 .0 .0 .1) (a .1 .1 .1 .0) (are .1 .1 .1 .0) (a .1 .1 .1 .1 .0) (are .1 .1 .1 .1 .0) (a .1 .1 .1 .1 .1 .0) (are .1 .1 .1 .1 .1 .0 .1) (a .1 .1 .1 .1 .1 .1 .0) (are .1 .1 .1 .1 .1 .1 .0 .1) req 𝓣 known₁ known₂ known₃ known₄ known₅ known₆))
+      (λ κs qs bounds a g are. needs 𝓤 (RaisesIn ((a .0 .now)) ((a .1 .0 .now)) ((a .1 .1 .0 .now)) (a .1 .1 .1 .0) (a .1 .1 .1 .1 .0) (a .1 .1 .1 .1 .1 .0) (a .1 .1 .1 .1 .1 .1 .0)) _ (λ req. walk 𝓤 H A W mem run (κs .0) (κs .1 .0) (κs .1 .1 .0) (qs .0) (qs .1 .0) (qs .1 .1 .0) (a .0 .ptr .0) (a .0 .ptr .1) (a .0 .name) (a .0 .now) (are .0 .0 .1) (a .1 .0 .ptr .0) (a .1 .0 .ptr .1) (a .1 .0 .name) (a .1 .0 .now) (are .1 .0 .0 .1) (a .1 .1 .0 .ptr .0) (a .1 .1 .0 .ptr .1) (a .1 .1 .0 .name) (a .1 .1 .0 .now) (are .1 .1 .0 .0 .1) (a .1 .1 .1 .0) (are .1 .1 .1 .0) (a .1 .1 .1 .1 .0) (are .1 .1 .1 .1 .0) (a .1 .1 .1 .1 .1 .0) (are .1 .1 .1 .1 .1 .0 .1) (a .1 .1 .1 .1 .1 .1 .0) (are .1 .1 .1 .1 .1 .1 .0 .1) req 𝓣 known₁ known₂ known₃ known₄ known₅ known₆))
 
   raise-meets : Meets 𝓤 H A own.signature (WpFn 𝓤 H (𝓣 .C) (𝓣 .Λ) code.function) (own.spec 𝓤 H A mem run)
   raise-meets = walk-meets 𝓤 H A own.ended stayed W (goes-slice 𝓤 H A W 3 0 tt (plain (λ _. Entry-type.the-row)), (goes-slice 𝓤 H A W 3 1 tt (plain (λ _. u8)), (goes-none-slice 𝓤 H A W 3 (2 ∷ []) tt (plain (λ _. u8)) yes, (goes-none 𝓤 H A W 3 (λ _. Span-type.the-row) yes (λ κs x f. refl), (goes-none 𝓤 H A W 3 (λ _. Cursor-type.the-row) yes (λ κs x f. refl), (goes-none 𝓤 H A W 3 (λ _. usize) yes (λ κs x f. refl), (goes-none 𝓤 H A W 3 (λ _. usize) yes (λ κs x f. refl), tt))))))) (own.clauses 𝓤 H A mem run)

@@ -46,11 +46,8 @@ use denote.Triple.Table.{entered, cited}
 use denote.Triple.Walked.{needs, Stays, stay-none, stay-none-slice, stay-slice, walkOf, goes-none, goes-none-slice, goes-slice, Walks, ends-at, walked, walk-meets, says as k-says}
 use denote.Exit.{yes}
 use denote.Signature.{plain}
-use Rattle.leaf_node.specs.Record.{total}
-use Rattle.leaf_raise.specs.Raising.{lowerBy}
-use Rattle.digest_keep.specs.Lifting.{partRecords, RaisedIn, Raisable, liftedOf, lastRecord, LastThere}
+use Rattle.digest_keep.specs.Lifting.{partRecords, RaisedTo, Raisable, LiftedTo, lastRecord, LastThere}
 use Rattle.leaf_work.specs.Pending.{recordsIn}
-use Rattle.leaf_move.specs.Moving.{under}
 use Rattle.digest_keep.proofs.Entries.{EntryRaised, no-record-is-raised, the-last-is-there, one-more-is-raised, the-entry-is-raised}
 use denote.Struct.Laws as LL
 use Rattle.leaf_entries.proofs.Locals.{tyAt}
@@ -136,7 +133,7 @@ module _ {M : Type 1} (𝓤 : URA M) (H : Heap 𝓤) (A : Atoms 𝓤) (W : Given
         qed W (‵ (flft κ₀ q₀) ∷ ‵ (flft κ₁ q₁) ∷ ‵ (ShrSlice (named 0) κ₀ u8 .own (record { ptr = (b-page, o-page); name = γ-page; now = page }) (sliceVal (b-page, o-page) n-page ∷ [])) ∷ ‵ (MutSlice (named 1) κ₁ u8 .own (record { ptr = (b-store, o-store); name = γ-store; now = store }) (sliceVal (b-store, o-store) n-store ∷ [])) ∷ []) ∵ k-says ! req $ k-nothing ! $ k-owned ! Top-type.the-row (Is Top-type.the-row) (LL.makes Top-type.the-type Top-laws.the-plain 𝓤 H A) top _ is-top $ k-fjoin ! $ k-move ! (4 ∷ 0 ∷ []) $ k-fjoin ! $ k-owned ! usize (Is usize) (uint-makes 𝓤 H A W w64) i _ is-i $ k-fjoin ! $ k-move ! (3 ∷ 0 ∷ []) $ k-fjoin ! $ k-owned ! Entry-type.the-row (Is Entry-type.the-row) (LL.makes Entry-type.the-type Entry-laws.the-plain 𝓤 H A) part _ is-part $ k-fjoin ! $ k-nothing ! $ k-move ! (3 ∷ 0 ∷ []) $ k-join ! $ k-move ! (2 ∷ 0 ∷ []) $ k-join ! $ k-frame ! $ k-done !
 
   abbrev Said₂ : (part : Entry) (page : List ℕ) (i : ℕ) (store : List ℕ) (top : Top) (r : Lifted) (store-exit : List ℕ) → Type 0
-  Said₂ part page i store top r store-exit = (r ≡ liftedOf top (lastRecord (store) (page) part i)) × (store-exit ≡ under (store) (top .at) (lastRecord (store) (page) part i .value))
+  Said₂ part page i store top r store-exit = LiftedTo (store) top (lastRecord (store) (page) part i) r (store-exit)
 
   -- `insert`, whatever it is called with
   module _ (κ₀ : Lft) (q₀ : Share) (b-list o-list : ℕ) (γ-list : GName) (list : List Entry) (n-list : ℕ) (at : ℕ) (w-at : Val) (entry : Entry) (w-entry : Val) where
@@ -191,7 +188,7 @@ module _ {M : Type 1} (𝓤 : URA M) (H : Heap 𝓤) (A : Atoms 𝓤) (W : Given
   abbrev Post : Val → SProp 𝓤
   Post = walkOf 𝓤 H A own.ended stayed (own.clauses 𝓤 H A at-mem run) .post (((κ₀, (κ₁, (κ₂, tt))), (q₀, (q₁, (q₂, tt))), tt, the-args, the-vals), tt)
 
-  the-exit : (r : Top) (w : Val) → Is Top-type.the-row r (w ∷ []) → (list-exit : List Entry) → length list-exit ≡ length list → (store-exit : List ℕ) → length store-exit ≡ length store → ((RaisedIn (list) (store) start (partRecords (store) (page) part) (list-exit) (store-exit)) × (r ≡ lowerBy start (length (partRecords (store) (page) part)) (total (partRecords (store) (page) part)))) → ent 𝓤 (⋆ 𝓤 H A (‵ (flft κ₀ q₀) ∷ ‵ (flft κ₁ q₁) ∷ ‵ (flft κ₂ q₂) ∷ ‵ (Own-page page) ∷ ‵ (Own-list list-exit) ∷ ‵ (Own-store store-exit) ∷ [])) (Post w)
+  the-exit : (r : Top) (w : Val) → Is Top-type.the-row r (w ∷ []) → (list-exit : List Entry) → length list-exit ≡ length list → (store-exit : List ℕ) → length store-exit ≡ length store → (RaisedTo (list) (store) start (partRecords (store) (page) part) r (list-exit) (store-exit)) → ent 𝓤 (⋆ 𝓤 H A (‵ (flft κ₀ q₀) ∷ ‵ (flft κ₁ q₁) ∷ ‵ (flft κ₂ q₂) ∷ ‵ (Own-page page) ∷ ‵ (Own-list list-exit) ∷ ‵ (Own-store store-exit) ∷ [])) (Post w)
   the-exit r w is list-exit len-list store-exit len-store fact-of =
       qed W (‵ (flft κ₀ q₀) ∷ ‵ (flft κ₁ q₁) ∷ ‵ (flft κ₂ q₂) ∷ ‵ (Own-page page) ∷ ‵ (Own-list list-exit) ∷ ‵ (Own-store store-exit) ∷ []) ∵ k-suffices ! _ (ends-at 𝓤 H A own.ended stayed (own.clauses 𝓤 H A at-mem run) W (((κ₀, (κ₁, (κ₂, tt))), (q₀, (q₁, (q₂, tt))), tt, the-args, the-vals), tt) w r (tt, (tt, (list-exit, (store-exit, (tt, tt))))) (tt, (tt, (len-list, (len-store, (tt, tt)))))) $ k-says ! fact-of $ k-nothing ! $ k-move ! (3 ∷ 0 ∷ []) $ k-join ! $ k-move ! (2 ∷ 0 ∷ []) $ k-join ! $ k-move ! (1 ∷ 0 ∷ []) $ k-join ! $ k-frame ! $ k-nothing ! $ k-owned ! Top-type.the-row (Is Top-type.the-row) (LL.makes Top-type.the-type Top-laws.the-plain 𝓤 H A) start _ is-start $ k-fjoin ! $ k-move ! (3 ∷ 0 ∷ []) $ k-fjoin ! $ k-move ! (2 ∷ 0 ∷ []) $ k-fjoin ! $ k-move ! (1 ∷ 0 ∷ []) $ k-fjoin ! $ k-owned ! Entry-type.the-row (Is Entry-type.the-row) (LL.makes Entry-type.the-type Entry-laws.the-plain 𝓤 H A) part _ is-part $ k-fjoin ! $ k-owned ! Top-type.the-row (Is Top-type.the-row) (LL.makes Top-type.the-type Top-laws.the-plain 𝓤 H A) r _ is $ k-move ! (1 ∷ 0 ∷ []) $ k-done !
 
@@ -232,7 +229,7 @@ module _ {M : Type 1} (𝓤 : URA M) (H : Heap 𝓤) (A : Atoms 𝓤) (W : Given
     steps i S less known len-store len-list r₂ zs₂ f₂ r₃ zs₃ f₃ =
         one-more-is-raised list store page part start req r₁ f₁ (list-list S) (list-store S) (state₀ S) i known less r₂ (zs₂ .1 .1 .1 .0) (zs₃ .0) f₂ f₃
 
-    ends : (i : ℕ) (S : St) → r₁ ≤ i → Known i S → length (list-store S) ≡ length store → length (list-list S) ≡ length list → (RaisedIn (list) (store) start (partRecords (store) (page) part) ((list-list S)) ((list-store S))) × ((state₀ S) ≡ lowerBy start (length (partRecords (store) (page) part)) (total (partRecords (store) (page) part)))
+    ends : (i : ℕ) (S : St) → r₁ ≤ i → Known i S → length (list-store S) ≡ length store → length (list-list S) ≡ length list → RaisedTo (list) (store) start (partRecords (store) (page) part) (state₀ S) ((list-list S)) ((list-store S))
     ends i S past known len-store len-list = the-entry-is-raised list store page part start req r₁ f₁ (list-list S) (list-store S) (state₀ S) i known past
 
     module _ (𝓣 : Tables 𝓤 H) (known₁ : Triple 𝓤 (𝓣 .C #leaf-passed·records-in-entry) (Callee₁ 𝓤 H A at-mem run)) (known₂ : Triple 𝓤 (𝓣 .C #digest-keep·lift-last) (Callee₂ 𝓤 H A at-mem run)) (known₃ : Triple 𝓤 (𝓣 .C #leaf-entries·insert) (Callee₃ 𝓤 H A at-mem run)) where

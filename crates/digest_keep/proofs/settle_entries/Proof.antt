@@ -39,7 +39,6 @@ use denote.Triple.Table.{entered, cited}
 use denote.Triple.Walked.{needs, Stays, stay-none, gave-slice, walkOf, goes-none, goes-gave-slice, Walks, ends-at, walked, walk-meets, says as k-says}
 use denote.Exit.{yes}
 use denote.Signature.{plain}
-use Rattle.leaf_node.specs.Page.{count}
 use Rattle.leaf_work.specs.Lent.{blank}
 use Rattle.leaf_move.specs.Moving.{settled, lowered}
 use Rattle.leaf_model.specs.Basics.{cleared}
