@@ -11,16 +11,11 @@ use leaf_give::give_ticket;
 use leaf_give::key_of;
 use leaf_work::Entry;
 use leaf_work::Work;
-ghost use mathlib.Core.Path.{_≡_};
 ghost use Prim.Native.Nat.{_-_};
 ghost use lib.ListN.{length};
-ghost use Rattle.bit_ops.specs.Separate.{separateLeaves};
-ghost use Rattle.leaf_node.specs.Page.{keyAt};
-ghost use Rattle.leaf_model.specs.Work.{zeroKey};
-ghost use Rattle.leaf_work.specs.Lent.{cutoffOf};
-ghost use Rattle.leaf_work.specs.Flat.{rowsOf, keysOf};
-ghost use Rattle.leaf_give.specs.Steps.{moreThan, progressOf, TicketAsked, TicketGiven, LeafThere, LeafGiven};
-ghost use Rattle.digest_leaf.specs.Keys.{keyBehind, KeyAsked};
+ghost use Rattle.leaf_give.specs.Steps.{TicketAsked};
+ghost use Rattle.digest_leaf.specs.Keys.{KeyAsked};
+ghost use Rattle.digest_give.specs.Giving.{Ticketed, LeafOn, LeafGivenOn};
 
 // The ticket of a leaf, by its page and the entry behind it, and how far the digest has come with it.
 fn ticket_leaf(
@@ -35,7 +30,7 @@ fn ticket_leaf(
     tickets: &mut [u8],
 ) -> Progress
     requires { ⌜ (TicketAsked p leaf (length (now built)) (length (now tickets))) × (KeyAsked (now page) span entry at (p .left .count - leaf .count)) ⌝ }
-    ensures { λ r. ⌜ (r ≡ progressOf p leaf at (r .place) (r .separator)) × (TicketGiven (moreThan p leaf) (separateLeaves (keyAt (now (built .entry)) (leaf .count - 1)) (keyBehind span entry (now (page .entry)) at (p .left .count - leaf .count)) zeroKey) (cutoffOf work) (now (tickets .entry)) (p .place) (p .separator) (r .place) (r .separator) (now (tickets .exit))) ⌝ }
+    ensures { λ r. ⌜ Ticketed (now (page .entry)) span entry p leaf at work (now (built .entry)) (now (tickets .entry)) r (now (tickets .exit)) ⌝ }
 {
     let given = work.cutoff;
     let cutoff = key_of(&given);
@@ -57,8 +52,8 @@ pub fn give_leaf(
     tickets: &mut [u8],
     size: usize,
 ) -> Progress
-    requires { ⌜ LeafThere size (rowsOf (now list)) (keysOf (now list)) (now store) (now page) span p leaf at (length (now area)) (length (now tickets)) ⌝ }
-    ensures { λ r. ⌜ LeafGiven size (rowsOf (now (list .entry))) (keysOf (now (list .entry))) (now (store .entry)) (now (page .entry)) span p leaf at (cutoffOf work) (now (area .entry)) (now (tickets .entry)) r (now (area .exit)) (now (tickets .exit)) ⌝ }
+    requires { ⌜ LeafOn size (now list) (now store) (now page) span p leaf at (length (now area)) (length (now tickets)) ⌝ }
+    ensures { λ r. ⌜ LeafGivenOn size (now (list .entry)) (now (store .entry)) (now (page .entry)) span p leaf at work (now (area .entry)) (now (tickets .entry)) r (now (area .exit)) (now (tickets .exit)) ⌝ }
 {
     let from = p.leaves * size;
     let to = from + size;

@@ -1,4 +1,5 @@
 -- The page of a leaf, filled entry by entry: where the next record goes, and what pushing requires.
+use mathlib.Core.Path.{_≡_}
 use mathlib.Core.Bool.{cond}
 use mathlib.Core.List.{List}
 use Prim.Native.Nat.{ℕ, _+_, _-_, _≤_, _<_}
@@ -13,7 +14,8 @@ use Rattle.leaf_cut.specs.declared.Span.{Span}
 use Rattle.leaf_cut.specs.declared.Cursor.{Cursor}
 use Rattle.leaf_cut.specs.Records.{recordsFrom, entryRecords}
 use Rattle.leaf_cut.specs.Steps.{CursorIn, Kept}
-use Rattle.leaf_write.specs.Filling.{RangeIn, Filling, LeafFits}
+use Rattle.leaf_node.specs.Build.{pushed}
+use Rattle.leaf_write.specs.Filling.{RangeIn, EntryThere, Filling, LeafFits}
 use Rattle.digest_leaf.specs.declared.Place.{Place}
 
 -- the pending records from a cursor on, by the list
@@ -30,6 +32,13 @@ placedBy p rs = record { skip = 0; j = p .j + length rs; at = p .at + total rs }
 -- what a page of `count` records still takes of an entry
 abbrev pub wanted : List ℕ → List ℕ → ℕ → Place → Entry → List Record
 wanted store page count p e = take (count - p .j) (entryRecords store page (rowOf e) (e .key) (p .skip))
+
+-- an entry whose wanted records have room in a page of m bytes, and where they stand in it
+abbrev pub EntryPushes : List ℕ → List ℕ → ℕ → ℕ → Place → Entry → Type 0
+EntryPushes store page m count p e = (EntryThere store page (rowOf e) (p .skip)) × (p .j < count) × (Filling m (p .j) (p .at) (wanted store page count p e))
+
+abbrev pub EntryPushed : List ℕ → List ℕ → ℕ → Place → Entry → List ℕ → Place → List ℕ → Type 0
+EntryPushed store page count p e d r d′ = (r ≡ placedBy p (wanted store page count p e)) × (d′ ≡ pushed d (p .j) (p .at) (wanted store page count p e))
 
 unfoldable pub untilFull : Place → ℕ → ℕ → ℕ
 untilFull p count end = cond (ltb (p .j) count) end 0

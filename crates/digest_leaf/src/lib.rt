@@ -20,11 +20,9 @@ ghost use lib.ListN.{length, take};
 ghost use Rattle.leaf_node.specs.Page.{recordsBetween};
 ghost use Rattle.leaf_node.specs.Build.{pushed, build};
 ghost use Rattle.leaf_work.specs.Flat.{rowOf, rowsOf};
-ghost use Rattle.leaf_cut.specs.Sizes.{cutSizes, pieceOf, pieceSizes, pieceCount, passedBy};
 ghost use Rattle.leaf_cut.specs.Steps.{Leaf, Spread, CursorIn, RowAt, Leafed};
-ghost use Rattle.leaf_write.specs.Filling.{EntryThere, Filling};
-ghost use Rattle.digest_leaf.specs.Consuming.{gaugeOf, begunAt, untilCut, takenRest, RestAsked};
-ghost use Rattle.digest_leaf.specs.Pushing.{recordsOn, placeAt, placedBy, wanted, untilFull, PushRestAsked, RecordsAsked, LeafAsked};
+ghost use Rattle.digest_leaf.specs.Consuming.{gaugeOf, begunAt, TakenOf, untilCut, takenRest, RestAsked};
+ghost use Rattle.digest_leaf.specs.Pushing.{recordsOn, placeAt, EntryPushes, EntryPushed, untilFull, PushRestAsked, RecordsAsked, LeafAsked};
 ghost use Rattle.digest_leaf.specs.Keys.{keyBehind, KeyAsked};
 
 // ---- where a leaf ends
@@ -64,7 +62,7 @@ fn take_entry(
     limit: usize,
 ) -> Taken
     requires { ⌜ (RowAt (now page) n (rowOf entry) (taken .at)) × (Leaf limit target (gaugeOf (taken .end))) ⌝ }
-    ensures { λ r. ⌜ (r .end ≡ cutSizes limit target (taken .end .count) (taken .end .bytes) (pieceSizes (now (page .entry)) (pieceOf (rowOf entry) (taken .at .skip)))) × (r .at ≡ passedBy (taken .at) (pieceCount (pieceOf (rowOf entry) (taken .at .skip))) (r .end .count - taken .end .count)) ⌝ }
+    ensures { λ r. ⌜ TakenOf limit target (now (page .entry)) entry taken r ⌝ }
 {
     let end = taken.end;
     let leaf = Gauge {
@@ -158,8 +156,8 @@ fn push_one(
     count: usize,
     d: &mut [u8],
 ) -> Place
-    requires { ⌜ (EntryThere (now store) (now page) (rowOf entry) (place .skip)) × (place .j < count) × (Filling (length (now d)) (place .j) (place .at) (wanted (now store) (now page) count place entry)) ⌝ }
-    ensures { λ r. ⌜ (r ≡ placedBy place (wanted (now (store .entry)) (now (page .entry)) count place entry)) × (now (d .exit) ≡ pushed (now (d .entry)) (place .j) (place .at) (wanted (now (store .entry)) (now (page .entry)) count place entry)) ⌝ }
+    requires { ⌜ EntryPushes (now store) (now page) (length (now d)) count place entry ⌝ }
+    ensures { λ r. ⌜ EntryPushed (now (store .entry)) (now (page .entry)) count place entry (now (d .entry)) r (now (d .exit)) ⌝ }
 {
     let j = place.j;
     let key = entry.key;

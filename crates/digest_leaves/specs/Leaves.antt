@@ -17,8 +17,8 @@ use Rattle.leaf_cut.specs.declared.Cursor.{Cursor}
 use Rattle.leaf_cut.specs.declared.Span.{Span}
 use Rattle.leaf_cut.specs.declared.Taken.{Taken}
 use Rattle.leaf_give.specs.declared.Progress.{Progress}
-use Rattle.leaf_give.specs.Giving.{pending, Gives}
-use Rattle.leaf_give.specs.Steps.{Begun}
+use Rattle.leaf_give.specs.Giving.{pending, Gives, GivenOut}
+use Rattle.leaf_give.specs.Steps.{Along, Begun}
 
 abbrev pub spanBy : Work → ℕ → Span
 spanBy w n = record { used = w .used; low = w .low; n = n }
@@ -45,3 +45,17 @@ pub record CutAsked (size : ℕ) (w : Work) (list : List Entry) (store page area
   pub counted : n ≡ count page
   pub target-is : targetOf size (body (pendingOn size w list store page)) ≡ some target
   pub begun : Begun size w (rowsOf list) (keysOf list) store page start
+
+-- ---- leaf_give's words for a list, by its rows and keys
+
+module _ (size : ℕ) (w : Work) (list : List Entry) (store page area tickets : List ℕ) where
+  abbrev pub GivesOn : Type 0
+  GivesOn = Gives size w (rowsOf list) (keysOf list) store page area tickets
+
+  -- the leaves that are cut have been given out
+  abbrev pub AlongOn : Progress → List ℕ → List ℕ → Type 0
+  AlongOn p area′ tickets′ = Along size w (rowsOf list) (keysOf list) store page area tickets (cutOn size w list store page) p area′ tickets′
+
+  -- all leaves have
+  abbrev pub GivenOn : Progress → List ℕ → List ℕ → Type 0
+  GivenOn p area′ tickets′ = GivenOut size w (rowsOf list) (keysOf list) store page area tickets p area′ tickets′

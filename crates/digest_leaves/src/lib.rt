@@ -17,11 +17,8 @@ ghost use mathlib.Core.Path.{_≡_};
 ghost use Prim.Native.Nat.{_-_, _≤_};
 ghost use Rattle.leaf_node.specs.Limits.{PageSize};
 ghost use Rattle.leaf_node.specs.Page.{count};
-ghost use Rattle.leaf_work.specs.Flat.{rowsOf, keysOf};
-ghost use Rattle.leaf_give.specs.Giving.{Gives, GivenOut};
-ghost use Rattle.leaf_give.specs.Steps.{Along};
 ghost use Rattle.digest_leaf.specs.Consuming.{gaugeOf};
-ghost use Rattle.digest_leaves.specs.Leaves.{endBy, whileCut, isLast, cutOn, CutAsked};
+ghost use Rattle.digest_leaves.specs.Leaves.{endBy, whileCut, isLast, CutAsked, GivesOn, AlongOn, GivenOn};
 
 // ---- by value
 
@@ -108,7 +105,7 @@ fn try_build_leaves(
     size: usize,
 ) -> Progress
     requires { ⌜ CutAsked size work (now list) (now store) (now page) (now area) (now tickets) n start target ⌝ }
-    ensures { λ r. ⌜ Along size work (rowsOf (now (list .entry))) (keysOf (now (list .entry))) (now (store .entry)) (now (page .entry)) (now (area .entry)) (now (tickets .entry)) (cutOn size work (now (list .entry)) (now (store .entry)) (now (page .entry))) r (now (area .exit)) (now (tickets .exit)) ⌝ }
+    ensures { λ r. ⌜ AlongOn size work (now (list .entry)) (now (store .entry)) (now (page .entry)) (now (area .entry)) (now (tickets .entry)) r (now (area .exit)) (now (tickets .exit)) ⌝ }
 {
     let span = span_of(work, n);
     let limit = limit_of(size);
@@ -151,8 +148,8 @@ fn cut_leaves(
     tickets: &mut [u8],
     size: usize,
 ) -> Progress
-    requires { ⌜ (Gives size work (rowsOf (now list)) (keysOf (now list)) (now store) (now page) (now area) (now tickets)) × (n ≡ count (now page)) ⌝ }
-    ensures { λ r. ⌜ Along size work (rowsOf (now (list .entry))) (keysOf (now (list .entry))) (now (store .entry)) (now (page .entry)) (now (area .entry)) (now (tickets .entry)) (cutOn size work (now (list .entry)) (now (store .entry)) (now (page .entry))) r (now (area .exit)) (now (tickets .exit)) ⌝ }
+    requires { ⌜ (GivesOn size work (now list) (now store) (now page) (now area) (now tickets)) × (n ≡ count (now page)) ⌝ }
+    ensures { λ r. ⌜ AlongOn size work (now (list .entry)) (now (store .entry)) (now (page .entry)) (now (area .entry)) (now (tickets .entry)) r (now (area .exit)) (now (tickets .exit)) ⌝ }
 {
     let begun = begin_leaves(work, page, n, size);
     let cut = is_cut(begun);
@@ -176,8 +173,8 @@ pub fn give_leaves(
     tickets: &mut [u8],
     size: usize,
 ) -> Progress
-    requires { ⌜ (Gives size work (rowsOf (now list)) (keysOf (now list)) (now store) (now page) (now area) (now tickets)) × (n ≡ count (now page)) ⌝ }
-    ensures { λ r. ⌜ GivenOut size work (rowsOf (now (list .entry))) (keysOf (now (list .entry))) (now (store .entry)) (now (page .entry)) (now (area .entry)) (now (tickets .entry)) r (now (area .exit)) (now (tickets .exit)) ⌝ }
+    requires { ⌜ (GivesOn size work (now list) (now store) (now page) (now area) (now tickets)) × (n ≡ count (now page)) ⌝ }
+    ensures { λ r. ⌜ GivenOn size work (now (list .entry)) (now (store .entry)) (now (page .entry)) (now (area .entry)) (now (tickets .entry)) r (now (area .exit)) (now (tickets .exit)) ⌝ }
 {
     let mut p = cut_leaves(work, list, store, page, n, area, tickets, size);
     let last = is_last(work, p, size);

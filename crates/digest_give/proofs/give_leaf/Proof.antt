@@ -41,15 +41,12 @@ use denote.Triple.Table.{entered, cited}
 use denote.Triple.Walked.{needs, Stays, stay-none, stay-none-slice, stay-slice, gave-slice, walkOf, goes-none, goes-none-slice, goes-slice, goes-gave-slice, Walks, ends-at, walked, walk-meets, says as k-says}
 use denote.Exit.{yes}
 use denote.Signature.{plain}
-use Rattle.leaf_work.specs.Lent.{cutoffOf, blank}
-use Rattle.leaf_work.specs.Flat.{rowsOf, keysOf}
-use Rattle.leaf_give.specs.Steps.{LeafThere, LeafGiven, moreThan, progressOf, TicketAsked, TicketGiven}
+use Rattle.digest_give.specs.Giving.{LeafOn, LeafGivenOn, Ticketed}
 use Rattle.leaf_node.specs.Build.{build}
 use Rattle.digest_leaf.specs.Pushing.{recordsOn, LeafAsked}
-use Rattle.bit_ops.specs.Separate.{separateLeaves}
-use Rattle.leaf_node.specs.Page.{keyAt}
-use Rattle.leaf_model.specs.Work.{zeroKey}
-use Rattle.digest_leaf.specs.Keys.{keyBehind, KeyAsked}
+use Rattle.leaf_work.specs.Lent.{blank, cutoffOf}
+use Rattle.leaf_give.specs.Steps.{TicketAsked}
+use Rattle.digest_leaf.specs.Keys.{KeyAsked}
 use Rattle.digest_give.proofs.OneLeaf.{a-page-asks, a-ticket-asks, a-leaf-off-the-list-is-given}
 use denote.Struct.Laws as LL
 use Rattle.leaf_entries.proofs.Locals.{tyAt}
@@ -169,10 +166,10 @@ module _ {M : Type 1} (𝓤 : URA M) (H : Heap 𝓤) (A : Atoms 𝓤) (W : Given
         qed W (‵ (flft κ₀ q₀) ∷ ‵ (flft κ₁ q₁) ∷ ‵ (flft κ₂ q₂) ∷ ‵ (ShrSlice (named 0) κ₀ u8 .own (record { ptr = (b-page, o-page); name = γ-page; now = page }) (sliceVal (b-page, o-page) n-page ∷ [])) ∷ ‵ (ShrSlice (named 1) κ₁ u8 .own (record { ptr = (b-built, o-built); name = γ-built; now = built }) (sliceVal (b-built, o-built) n-built ∷ [])) ∷ ‵ (MutSlice (named 2) κ₂ u8 .own (record { ptr = (b-tickets, o-tickets); name = γ-tickets; now = tickets }) (sliceVal (b-tickets, o-tickets) n-tickets ∷ [])) ∷ []) ∵ k-says ! req $ k-nothing ! $ k-move ! (6 ∷ 0 ∷ []) $ k-fjoin ! $ k-move ! (5 ∷ 0 ∷ []) $ k-fjoin ! $ k-owned ! Work-type.the-row (Is Work-type.the-row) (LL.makes Work-type.the-type Work-laws.the-plain 𝓤 H A) work _ is-work $ k-fjoin ! $ k-owned ! Cursor-type.the-row (Is Cursor-type.the-row) (LL.makes Cursor-type.the-type Cursor-laws.the-plain 𝓤 H A) at _ is-at $ k-fjoin ! $ k-owned ! Gauge-type.the-row (Is Gauge-type.the-row) (LL.makes Gauge-type.the-type Gauge-laws.the-plain 𝓤 H A) leaf _ is-leaf $ k-fjoin ! $ k-owned ! Progress-type.the-row (Is Progress-type.the-row) (LL.makes Progress-type.the-type Progress-laws.the-plain 𝓤 H A) p _ is-p $ k-fjoin ! $ k-owned ! Span-type.the-row (Is Span-type.the-row) (LL.makes Span-type.the-type Span-laws.the-plain 𝓤 H A) span _ is-span $ k-fjoin ! $ k-move ! (4 ∷ 0 ∷ []) $ k-fjoin ! $ k-owned ! Entry-type.the-row (Is Entry-type.the-row) (LL.makes Entry-type.the-type Entry-laws.the-plain 𝓤 H A) entry _ is-entry $ k-fjoin ! $ k-nothing ! $ k-move ! (4 ∷ 0 ∷ []) $ k-join ! $ k-move ! (3 ∷ 0 ∷ []) $ k-join ! $ k-move ! (2 ∷ 0 ∷ []) $ k-join ! $ k-frame ! $ k-done !
 
   abbrev Said₃ : (entry : Entry) (page : List ℕ) (span : Span) (p : Progress) (leaf : Gauge) (at : Cursor) (work : Work) (built : List ℕ) (tickets : List ℕ) (r : Progress) (tickets-exit : List ℕ) → Type 0
-  Said₃ entry page span p leaf at work built tickets r tickets-exit = (r ≡ progressOf p leaf at (r .place) (r .separator)) × (TicketGiven (moreThan p leaf) (separateLeaves (keyAt (built) (leaf .count - 1)) (keyBehind span entry (page) at (p .left .count - leaf .count)) zeroKey) (cutoffOf work) (tickets) (p .place) (p .separator) (r .place) (r .separator) (tickets-exit))
+  Said₃ entry page span p leaf at work built tickets r tickets-exit = Ticketed (page) span entry p leaf at work (built) (tickets) r (tickets-exit)
 
 module _ {M : Type 1} (𝓤 : URA M) (H : Heap 𝓤) (A : Atoms 𝓤) (W : Given 𝓤 H A) (at-mem : Memory → SProp 𝓤) (run : Routine → Fun 𝓤)
-    (κ₀ κ₁ κ₂ κ₃ κ₄ : Lft) (q₀ q₁ q₂ q₃ q₄ : Share) (b-list o-list : ℕ) (γ-list : GName) (list : List Entry) (room-list : Room Entry-type.the-row (length list)) (b-store o-store : ℕ) (γ-store : GName) (store : List ℕ) (room-store : Room u8 (length store)) (b-page o-page : ℕ) (γ-page : GName) (page : List ℕ) (room-page : Room u8 (length page)) (span : Span) (is-span : Is Span-type.the-row span (mach-Span span ∷ [])) (p : Progress) (is-p : Is Progress-type.the-row p (mach-Progress p ∷ [])) (leaf : Gauge) (is-leaf : Is Gauge-type.the-row leaf (mach-Gauge leaf ∷ [])) (at : Cursor) (is-at : Is Cursor-type.the-row at (mach-Cursor at ∷ [])) (work : Work) (is-work : Is Work-type.the-row work (mach-Work work ∷ [])) (b-area o-area : ℕ) (γ-area : GName) (area : List ℕ) (room-area : Room u8 (length area)) (b-tickets o-tickets : ℕ) (γ-tickets : GName) (tickets : List ℕ) (room-tickets : Room u8 (length tickets)) (size : ℕ) (size-fits : size < 2 ^ 64) (req : LeafThere size (rowsOf (list)) (keysOf (list)) (store) (page) span p leaf at (length (area)) (length (tickets))) where
+    (κ₀ κ₁ κ₂ κ₃ κ₄ : Lft) (q₀ q₁ q₂ q₃ q₄ : Share) (b-list o-list : ℕ) (γ-list : GName) (list : List Entry) (room-list : Room Entry-type.the-row (length list)) (b-store o-store : ℕ) (γ-store : GName) (store : List ℕ) (room-store : Room u8 (length store)) (b-page o-page : ℕ) (γ-page : GName) (page : List ℕ) (room-page : Room u8 (length page)) (span : Span) (is-span : Is Span-type.the-row span (mach-Span span ∷ [])) (p : Progress) (is-p : Is Progress-type.the-row p (mach-Progress p ∷ [])) (leaf : Gauge) (is-leaf : Is Gauge-type.the-row leaf (mach-Gauge leaf ∷ [])) (at : Cursor) (is-at : Is Cursor-type.the-row at (mach-Cursor at ∷ [])) (work : Work) (is-work : Is Work-type.the-row work (mach-Work work ∷ [])) (b-area o-area : ℕ) (γ-area : GName) (area : List ℕ) (room-area : Room u8 (length area)) (b-tickets o-tickets : ℕ) (γ-tickets : GName) (tickets : List ℕ) (room-tickets : Room u8 (length tickets)) (size : ℕ) (size-fits : size < 2 ^ 64) (req : LeafOn size (list) (store) (page) span p leaf at (length (area)) (length (tickets))) where
   abbrev ref-list : List Entry → RefT (List Entry)
   ref-list zs = record { ptr = (b-list, o-list); name = γ-list; now = zs }
 
@@ -227,7 +224,7 @@ module _ {M : Type 1} (𝓤 : URA M) (H : Heap 𝓤) (A : Atoms 𝓤) (W : Given
   abbrev Post : Val → SProp 𝓤
   Post = walkOf 𝓤 H A own.ended stayed (own.clauses 𝓤 H A at-mem run) .post (((κ₀, (κ₁, (κ₂, (κ₃, (κ₄, tt))))), (q₀, (q₁, (q₂, (q₃, (q₄, tt))))), tt, the-args, the-vals), tt)
 
-  the-exit : (r : Progress) (w : Val) → Is Progress-type.the-row r (w ∷ []) → (area-exit : List ℕ) → length area-exit ≡ length area → (tickets-exit : List ℕ) → length tickets-exit ≡ length tickets → (LeafGiven size (rowsOf (list)) (keysOf (list)) (store) (page) span p leaf at (cutoffOf work) (area) (tickets) r (area-exit) (tickets-exit)) → ent 𝓤 (⋆ 𝓤 H A (‵ (flft κ₀ q₀) ∷ ‵ (flft κ₁ q₁) ∷ ‵ (flft κ₂ q₂) ∷ ‵ (flft κ₃ q₃) ∷ ‵ (flft κ₄ q₄) ∷ ‵ (Own-list list) ∷ ‵ (Own-store store) ∷ ‵ (Own-page page) ∷ ‵ (Own-area area-exit) ∷ ‵ (finally u8 γ-tickets tickets-exit) ∷ [])) (Post w)
+  the-exit : (r : Progress) (w : Val) → Is Progress-type.the-row r (w ∷ []) → (area-exit : List ℕ) → length area-exit ≡ length area → (tickets-exit : List ℕ) → length tickets-exit ≡ length tickets → (LeafGivenOn size (list) (store) (page) span p leaf at work (area) (tickets) r (area-exit) (tickets-exit)) → ent 𝓤 (⋆ 𝓤 H A (‵ (flft κ₀ q₀) ∷ ‵ (flft κ₁ q₁) ∷ ‵ (flft κ₂ q₂) ∷ ‵ (flft κ₃ q₃) ∷ ‵ (flft κ₄ q₄) ∷ ‵ (Own-list list) ∷ ‵ (Own-store store) ∷ ‵ (Own-page page) ∷ ‵ (Own-area area-exit) ∷ ‵ (finally u8 γ-tickets tickets-exit) ∷ [])) (Post w)
   the-exit r w is area-exit len-area tickets-exit len-tickets fact-of =
       qed W (‵ (flft κ₀ q₀) ∷ ‵ (flft κ₁ q₁) ∷ ‵ (flft κ₂ q₂) ∷ ‵ (flft κ₃ q₃) ∷ ‵ (flft κ₄ q₄) ∷ ‵ (Own-list list) ∷ ‵ (Own-store store) ∷ ‵ (Own-page page) ∷ ‵ (Own-area area-exit) ∷ ‵ (finally u8 γ-tickets tickets-exit) ∷ []) ∵ k-suffices ! _ (ends-at 𝓤 H A own.ended stayed (own.clauses 𝓤 H A at-mem run) W (((κ₀, (κ₁, (κ₂, (κ₃, (κ₄, tt))))), (q₀, (q₁, (q₂, (q₃, (q₄, tt))))), tt, the-args, the-vals), tt) w r (tt, (tt, (tt, (tt, (tt, (tt, (tt, (tt, (area-exit, (tickets-exit, (tt, tt))))))))))) (tt, (tt, (tt, (tt, (tt, (tt, (tt, (tt, (len-area, (len-tickets, (tt, tt)))))))))))) $ k-says ! fact-of $ k-nothing ! $ k-move ! (5 ∷ 0 ∷ []) $ k-join ! $ k-move ! (4 ∷ 0 ∷ []) $ k-join ! $ k-move ! (3 ∷ 0 ∷ []) $ k-join ! $ k-move ! (2 ∷ 0 ∷ []) $ k-join ! $ k-move ! (1 ∷ 0 ∷ []) $ k-join ! $ k-frame ! $ k-nothing ! $ k-owned ! usize (Is usize) (uint-makes 𝓤 H A W w64) size _ (refl, size-fits) $ k-fjoin ! $ k-move ! (5 ∷ 0 ∷ []) $ k-fjoin ! $ k-move ! (4 ∷ 0 ∷ []) $ k-fjoin ! $ k-owned ! Work-type.the-row (Is Work-type.the-row) (LL.makes Work-type.the-type Work-laws.the-plain 𝓤 H A) work _ is-work $ k-fjoin ! $ k-owned ! Cursor-type.the-row (Is Cursor-type.the-row) (LL.makes Cursor-type.the-type Cursor-laws.the-plain 𝓤 H A) at _ is-at $ k-fjoin ! $ k-owned ! Gauge-type.the-row (Is Gauge-type.the-row) (LL.makes Gauge-type.the-type Gauge-laws.the-plain 𝓤 H A) leaf _ is-leaf $ k-fjoin ! $ k-owned ! Progress-type.the-row (Is Progress-type.the-row) (LL.makes Progress-type.the-type Progress-laws.the-plain 𝓤 H A) p _ is-p $ k-fjoin ! $ k-owned ! Span-type.the-row (Is Span-type.the-row) (LL.makes Span-type.the-type Span-laws.the-plain 𝓤 H A) span _ is-span $ k-fjoin ! $ k-move ! (3 ∷ 0 ∷ []) $ k-fjoin ! $ k-move ! (2 ∷ 0 ∷ []) $ k-fjoin ! $ k-move ! (1 ∷ 0 ∷ []) $ k-fjoin ! $ k-owned ! Progress-type.the-row (Is Progress-type.the-row) (LL.makes Progress-type.the-type Progress-laws.the-plain 𝓤 H A) r _ is $ k-move ! (1 ∷ 0 ∷ []) $ k-done !
 
@@ -385,7 +382,7 @@ module _ {M : Type 1} (𝓤 : URA M) (H : Heap 𝓤) (A : Atoms 𝓤) (W : Given
   give-leaf-walks : Walks 𝓤 H A own.ended stayed (WpFn 𝓤 H (𝓣 .C) (𝓣 .Λ) code.function) (own.clauses 𝓤 H A mem run)
   give-leaf-walks = walked 𝓤 H A own.ended stayed (own.clauses 𝓤 H A mem run) (WpFn 𝓤 H (𝓣 .C) (𝓣 .Λ) code.function)
       (λ κs. (slice-vals, (slice-vals, (slice-vals, (LL.vals Span-type.the-type Span-laws.the-laws, (LL.vals Progress-type.the-type Progress-laws.the-laws, (LL.vals Gauge-type.the-type Gauge-laws.the-laws, (LL.vals Cursor-type.the-type Cursor-laws.the-laws, (LL.vals Work-type.the-type Work-laws.the-laws, (slice-vals, (slice-vals, (uint-vals w64, tt)))))))))))) (λ κs. (shr-slice-tells (named 0) (κs .0) Entry-type.the-row, (shr-slice-tells (named 1) (κs .1 .0) u8, (shr-slice-tells (named 2) (κs .1 .1 .0) u8, (LL.tells Span-type.the-type Span-laws.the-laws, (LL.tells Progress-type.the-type Progress-laws.the-laws, (LL.tells Gauge-type.the-type Gauge-laws.the-laws, (LL.tells Cursor-type.the-type Cursor-laws.the-laws, (LL.tells Work-type.the-type Work-laws.the-laws, (mut-slice-tells (named 3) (κs .1 .1 .1 .0) u8, (mut-slice-tells (named 4) (κs .1 .1 .1 .1 .0) u8, (uint-tells w64, tt))))))))))))
-      (λ κs qs bounds a g are. needs 𝓤 (LeafThere (a .1 .1 .1 .1 .1 .1 .1 .1 .1 .1 .0) (rowsOf ((a .0 .now))) (keysOf ((a .0 .now))) ((a .1 .0 .now)) ((a .1 .1 .0 .now)) (a .1 .1 .1 .0) (a .1 .1 .1 .1 .0) (a .1 .1 .1 .1 .1 .0) (a .1 .1 .1 .1 .1 .1 .0) (length ((a .1 .1 .1 .1 .1 .1 .1 .1 .0 .now))) (length ((a .1 .1 .1 .1 .1 .1 .1 .1 .1 .0 .now)))) _ (λ req. walk 𝓤 H A W mem run (κs .0) (κs .1 .0) (κs .1 .1 .0) (κs .1 .1 .1 .0) (κs .1 .1 .1 .1 .0) (qs .0) (qs .1 .0) (qs .1 .1 .0) (qs .1 .1 .1 .0) (qs .1 .1 .1 .1 .0) (a .0 .ptr .0) (a .0 .ptr .1) (a .0 .name) (a .0 .now) (are .0 .0 .1) (a .1 .0 .ptr .0) (a .1 .0 .ptr .1) (a .1 .0 .name) (a .1 .0 .now) (are .1 .0 .0 .1) (a .1 .1 .0 .ptr .0) (a .1 .1 .0 .ptr .1) (a .1 .1 .0 .name) (a .1 .1 .0 .now) (are .1 .1 .0 .0 .1) (a .1 .1 .1 .0) (are .1 .1 .1 .0) (a .1 .1 .1 .1 .0) (are .1 .1 .1 .1 .0) (a .1 .1 .1 .1 .1 .0) (are .1 .1 .1 .1 .1 .0) (a .1 .1 .1 .1 .1 .1 .0) (are .1 .1 .1 .1 .1 .1 .0) (a .1 .1 .1 .1 .1 .1 .1 .0) (are .1 .1 .1 .1 .1 .1 .1 .0) (a .1 .1 .1 .1 .1 .1 .1 .1 .0 .ptr .0) (a .1 .1 .1 .1 .1 .1 .1 .1 .0 .ptr .1) (a .1 .1 .1 .1 .1 .1 .1 .1 .0 .name) (a .1 .1 .1 .1 .1 .1 .1 .1 .0 .now) (are .1 .1 .1 .1 .1 .1 .1 .1 .0 .0 .1) (a .1 .1 .1 .1 .1 .1 .1 .1 .1 .0 .ptr .0) (a .1 .1 .1 .1 .1 .1 .1 .1 .1 .0 .ptr .1) (a .1 .1 .1 .1 .1 .1 .1 .1 .1 .0 .name) (a .1 .1 .1 .1 .1 .1 .1 .1 .1 .0 .now) (are .1 .1 .1 .1 .1 .1 .1 .1 .1 .0 .0 .1) (a .1 .1 .1 .1 .1 .1 .1 .1 .1 .1 .0) (are .1 .1 .1 .1 .1 .1 .1 .1 .1 .1 .0 .1) req 𝓣 known₁ known₂ known₃))
+      (λ κs qs bounds a g are. needs 𝓤 (LeafOn (a .1 .1 .1 .1 .1 .1 .1 .1 .1 .1 .0) ((a .0 .now)) ((a .1 .0 .now)) ((a .1 .1 .0 .now)) (a .1 .1 .1 .0) (a .1 .1 .1 .1 .0) (a .1 .1 .1 .1 .1 .0) (a .1 .1 .1 .1 .1 .1 .0) (length ((a .1 .1 .1 .1 .1 .1 .1 .1 .0 .now))) (length ((a .1 .1 .1 .1 .1 .1 .1 .1 .1 .0 .now)))) _ (λ req. walk 𝓤 H A W mem run (κs .0) (κs .1 .0) (κs .1 .1 .0) (κs .1 .1 .1 .0) (κs .1 .1 .1 .1 .0) (qs .0) (qs .1 .0) (qs .1 .1 .0) (qs .1 .1 .1 .0) (qs .1 .1 .1 .1 .0) (a .0 .ptr .0) (a .0 .ptr .1) (a .0 .name) (a .0 .now) (are .0 .0 .1) (a .1 .0 .ptr .0) (a .1 .0 .ptr .1) (a .1 .0 .name) (a .1 .0 .now) (are .1 .0 .0 .1) (a .1 .1 .0 .ptr .0) (a .1 .1 .0 .ptr .1) (a .1 .1 .0 .name) (a .1 .1 .0 .now) (are .1 .1 .0 .0 .1) (a .1 .1 .1 .0) (are .1 .1 .1 .0) (a .1 .1 .1 .1 .0) (are .1 .1 .1 .1 .0) (a .1 .1 .1 .1 .1 .0) (are .1 .1 .1 .1 .1 .0) (a .1 .1 .1 .1 .1 .1 .0) (are .1 .1 .1 .1 .1 .1 .0) (a .1 .1 .1 .1 .1 .1 .1 .0) (are .1 .1 .1 .1 .1 .1 .1 .0) (a .1 .1 .1 .1 .1 .1 .1 .1 .0 .ptr .0) (a .1 .1 .1 .1 .1 .1 .1 .1 .0 .ptr .1) (a .1 .1 .1 .1 .1 .1 .1 .1 .0 .name) (a .1 .1 .1 .1 .1 .1 .1 .1 .0 .now) (are .1 .1 .1 .1 .1 .1 .1 .1 .0 .0 .1) (a .1 .1 .1 .1 .1 .1 .1 .1 .1 .0 .ptr .0) (a .1 .1 .1 .1 .1 .1 .1 .1 .1 .0 .ptr .1) (a .1 .1 .1 .1 .1 .1 .1 .1 .1 .0 .name) (a .1 .1 .1 .1 .1 .1 .1 .1 .1 .0 .now) (are .1 .1 .1 .1 .1 .1 .1 .1 .1 .0 .0 .1) (a .1 .1 .1 .1 .1 .1 .1 .1 .1 .1 .0) (are .1 .1 .1 .1 .1 .1 .1 .1 .1 .1 .0 .1) req 𝓣 known₁ known₂ known₃))
 
   give-leaf-meets : Meets 𝓤 H A own.signature (WpFn 𝓤 H (𝓣 .C) (𝓣 .Λ) code.function) (own.spec 𝓤 H A mem run)
   give-leaf-meets = walk-meets 𝓤 H A own.ended stayed W (goes-none-slice 𝓤 H A W 5 (0 ∷ []) tt (plain (λ _. Entry-type.the-row)) yes, (goes-none-slice 𝓤 H A W 5 (1 ∷ []) tt (plain (λ _. u8)) yes, (goes-none-slice 𝓤 H A W 5 (2 ∷ []) tt (plain (λ _. u8)) yes, (goes-none 𝓤 H A W 5 (λ _. Span-type.the-row) yes (λ κs x f. refl), (goes-none 𝓤 H A W 5 (λ _. Progress-type.the-row) yes (λ κs x f. refl), (goes-none 𝓤 H A W 5 (λ _. Gauge-type.the-row) yes (λ κs x f. refl), (goes-none 𝓤 H A W 5 (λ _. Cursor-type.the-row) yes (λ κs x f. refl), (goes-none 𝓤 H A W 5 (λ _. Work-type.the-row) yes (λ κs x f. refl), (goes-slice 𝓤 H A W 5 3 tt (plain (λ _. u8)), (goes-gave-slice 𝓤 H A W 5 4 tt (plain (λ _. u8)), (goes-none 𝓤 H A W 5 (λ _. usize) yes (λ κs x f. refl), tt))))))))))) (own.clauses 𝓤 H A mem run)

@@ -49,8 +49,7 @@ use denote.Exit.{yes}
 use denote.Signature.{plain}
 use Rattle.leaf_work.specs.Flat.{rowsOf, rowOf}
 use Rattle.leaf_cut.specs.Steps.{Spread, CursorIn, Leafed, Leaf, RowAt}
-use Rattle.digest_leaf.specs.Consuming.{begunAt, gaugeOf, untilCut, takenRest, RestAsked}
-use Rattle.leaf_cut.specs.Sizes.{cutSizes, pieceOf, pieceSizes, pieceCount, passedBy}
+use Rattle.digest_leaf.specs.Consuming.{begunAt, gaugeOf, TakenOf, untilCut, takenRest, RestAsked}
 use Rattle.leaf_work.specs.Lent.{blank}
 use Rattle.leaf_cut.specs.declared.Taken.{Taken}
 use Rattle.digest_leaf.proofs.Consuming.{Upon, upon-first, an-entry-is-in-the-list, a-turn-asks, upon-next, the-rest-asks, upon-last}
@@ -150,7 +149,7 @@ module _ {M : Type 1} (𝓤 : URA M) (H : Heap 𝓤) (A : Atoms 𝓤) (W : Given
         qed W (‵ (flft κ₀ q₀) ∷ ‵ (ShrSlice (named 0) κ₀ u8 .own (record { ptr = (b-page, o-page); name = γ-page; now = page }) (sliceVal (b-page, o-page) n-page ∷ [])) ∷ []) ∵ k-says ! req $ k-nothing ! $ k-owned ! usize (Is usize) (uint-makes 𝓤 H A W w64) limit _ is-limit $ k-fjoin ! $ k-owned ! usize (Is usize) (uint-makes 𝓤 H A W w64) target _ is-target $ k-fjoin ! $ k-owned ! Taken-type.the-row (Is Taken-type.the-row) (LL.makes Taken-type.the-type Taken-laws.the-plain 𝓤 H A) taken _ is-taken $ k-fjoin ! $ k-owned ! usize (Is usize) (uint-makes 𝓤 H A W w64) n _ is-n $ k-fjoin ! $ k-move ! (2 ∷ 0 ∷ []) $ k-fjoin ! $ k-owned ! Entry-type.the-row (Is Entry-type.the-row) (LL.makes Entry-type.the-type Entry-laws.the-plain 𝓤 H A) entry _ is-entry $ k-fjoin ! $ k-nothing ! $ k-move ! (2 ∷ 0 ∷ []) $ k-join ! $ k-frame ! $ k-done !
 
   abbrev Said₂ : (entry : Entry) (page : List ℕ) (n : ℕ) (taken : Taken) (target : ℕ) (limit : ℕ) (r : Taken) → Type 0
-  Said₂ entry page n taken target limit r = (r .end ≡ cutSizes limit target (taken .end .count) (taken .end .bytes) (pieceSizes (page) (pieceOf (rowOf entry) (taken .at .skip)))) × (r .at ≡ passedBy (taken .at) (pieceCount (pieceOf (rowOf entry) (taken .at .skip))) (r .end .count - taken .end .count))
+  Said₂ entry page n taken target limit r = TakenOf limit target (page) entry taken r
 
   -- `until_cut`, whatever it is called with
   module _ (taken : Taken) (w-taken : Val) (end : ℕ) (w-end : Val) where

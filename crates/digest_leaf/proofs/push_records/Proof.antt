@@ -50,9 +50,7 @@ use denote.Triple.Walked.{needs, Stays, stay-none, stay-none-slice, stay-slice, 
 use denote.Exit.{yes}
 use denote.Signature.{plain}
 use Rattle.leaf_node.specs.Build.{pushed}
-use Rattle.digest_leaf.specs.Pushing.{recordsOn, RecordsAsked, placeAt, placedBy, wanted, untilFull, PushRestAsked}
-use Rattle.leaf_work.specs.Flat.{rowOf}
-use Rattle.leaf_write.specs.Filling.{EntryThere, Filling}
+use Rattle.digest_leaf.specs.Pushing.{recordsOn, RecordsAsked, placeAt, EntryPushes, EntryPushed, untilFull, PushRestAsked}
 use Rattle.leaf_node.specs.Page.{recordsBetween}
 use Rattle.leaf_work.specs.Lent.{blank}
 use Rattle.digest_leaf.proofs.Pushing.{Upon, upon-first, an-entry-is-in-the-list, a-turn-asks, upon-next, the-rest-asks, upon-last}
@@ -148,12 +146,12 @@ module _ {M : Type 1} (𝓤 : URA M) (H : Heap 𝓤) (A : Atoms 𝓤) (W : Given
     abbrev to₂ : (Callee₂ 𝓤 H A at-mem run) .Ghost
     to₂ = (((κ₀, (κ₁, (κ₂, tt))), (q₀, (q₁, (q₂, tt))), tt, args₂, (w-entry ∷ [], (sliceVal (b-store, o-store) n-store ∷ [], (sliceVal (b-page, o-page) n-page ∷ [], (w-place ∷ [], (w-count ∷ [], (sliceVal (b-d, o-d) n-d ∷ [], tt))))))), tt)
 
-    asks₂ : Is Entry-type.the-row entry (w-entry ∷ []) → Is Place-type.the-row place (w-place ∷ []) → Is usize count (w-count ∷ []) → ((EntryThere (store) (page) (rowOf entry) (place .skip)) × (place .j < count) × (Filling (length (d)) (place .j) (place .at) (wanted (store) (page) count place entry))) → ent 𝓤 (⋆ 𝓤 H A (‵ (flft κ₀ q₀) ∷ ‵ (flft κ₁ q₁) ∷ ‵ (flft κ₂ q₂) ∷ ‵ (ShrSlice (named 0) κ₀ u8 .own (record { ptr = (b-store, o-store); name = γ-store; now = store }) (sliceVal (b-store, o-store) n-store ∷ [])) ∷ ‵ (ShrSlice (named 1) κ₁ u8 .own (record { ptr = (b-page, o-page); name = γ-page; now = page }) (sliceVal (b-page, o-page) n-page ∷ [])) ∷ ‵ (MutSlice (named 2) κ₂ u8 .own (record { ptr = (b-d, o-d); name = γ-d; now = d }) (sliceVal (b-d, o-d) n-d ∷ [])) ∷ [])) ((Callee₂ 𝓤 H A at-mem run) .pre to₂)
+    asks₂ : Is Entry-type.the-row entry (w-entry ∷ []) → Is Place-type.the-row place (w-place ∷ []) → Is usize count (w-count ∷ []) → (EntryPushes (store) (page) (length (d)) count place entry) → ent 𝓤 (⋆ 𝓤 H A (‵ (flft κ₀ q₀) ∷ ‵ (flft κ₁ q₁) ∷ ‵ (flft κ₂ q₂) ∷ ‵ (ShrSlice (named 0) κ₀ u8 .own (record { ptr = (b-store, o-store); name = γ-store; now = store }) (sliceVal (b-store, o-store) n-store ∷ [])) ∷ ‵ (ShrSlice (named 1) κ₁ u8 .own (record { ptr = (b-page, o-page); name = γ-page; now = page }) (sliceVal (b-page, o-page) n-page ∷ [])) ∷ ‵ (MutSlice (named 2) κ₂ u8 .own (record { ptr = (b-d, o-d); name = γ-d; now = d }) (sliceVal (b-d, o-d) n-d ∷ [])) ∷ [])) ((Callee₂ 𝓤 H A at-mem run) .pre to₂)
     asks₂ is-entry is-place is-count req =
         qed W (‵ (flft κ₀ q₀) ∷ ‵ (flft κ₁ q₁) ∷ ‵ (flft κ₂ q₂) ∷ ‵ (ShrSlice (named 0) κ₀ u8 .own (record { ptr = (b-store, o-store); name = γ-store; now = store }) (sliceVal (b-store, o-store) n-store ∷ [])) ∷ ‵ (ShrSlice (named 1) κ₁ u8 .own (record { ptr = (b-page, o-page); name = γ-page; now = page }) (sliceVal (b-page, o-page) n-page ∷ [])) ∷ ‵ (MutSlice (named 2) κ₂ u8 .own (record { ptr = (b-d, o-d); name = γ-d; now = d }) (sliceVal (b-d, o-d) n-d ∷ [])) ∷ []) ∵ k-says ! req $ k-nothing ! $ k-move ! (6 ∷ 0 ∷ []) $ k-fjoin ! $ k-owned ! usize (Is usize) (uint-makes 𝓤 H A W w64) count _ is-count $ k-fjoin ! $ k-owned ! Place-type.the-row (Is Place-type.the-row) (LL.makes Place-type.the-type Place-laws.the-plain 𝓤 H A) place _ is-place $ k-fjoin ! $ k-move ! (5 ∷ 0 ∷ []) $ k-fjoin ! $ k-move ! (4 ∷ 0 ∷ []) $ k-fjoin ! $ k-owned ! Entry-type.the-row (Is Entry-type.the-row) (LL.makes Entry-type.the-type Entry-laws.the-plain 𝓤 H A) entry _ is-entry $ k-fjoin ! $ k-nothing ! $ k-move ! (4 ∷ 0 ∷ []) $ k-join ! $ k-move ! (3 ∷ 0 ∷ []) $ k-join ! $ k-move ! (2 ∷ 0 ∷ []) $ k-join ! $ k-frame ! $ k-done !
 
   abbrev Said₂ : (entry : Entry) (store : List ℕ) (page : List ℕ) (place : Place) (count : ℕ) (d : List ℕ) (r : Place) (d-exit : List ℕ) → Type 0
-  Said₂ entry store page place count d r d-exit = (r ≡ placedBy place (wanted (store) (page) count place entry)) × (d-exit ≡ pushed (d) (place .j) (place .at) (wanted (store) (page) count place entry))
+  Said₂ entry store page place count d r d-exit = EntryPushed (store) (page) count place entry (d) r (d-exit)
 
   -- `until_full`, whatever it is called with
   module _ (place : Place) (w-place : Val) (count : ℕ) (w-count : Val) (end : ℕ) (w-end : Val) where

@@ -40,12 +40,10 @@ use denote.Triple.Walked.{needs, Stays, stay-none, stay-none-slice, stay-slice, 
 use denote.Exit.{yes}
 use denote.Signature.{plain}
 use Rattle.leaf_node.specs.Page.{count}
-use Rattle.leaf_work.specs.Flat.{rowsOf, keysOf}
-use Rattle.leaf_give.specs.Giving.{Gives}
-use Rattle.leaf_give.specs.Steps.{Along, listedIn, BegunBy}
-use Rattle.digest_leaves.specs.Leaves.{cutOn, CutAsked}
+use Rattle.digest_leaves.specs.Leaves.{GivesOn, AlongOn, CutAsked}
 use Rattle.leaf_node.specs.Limits.{PageSize}
 use Rattle.leaf_cut.specs.Steps.{Modest, Rest}
+use Rattle.leaf_give.specs.Steps.{listedIn, BegunBy}
 use Rattle.leaf_entries.proofs.Arms.{held, failed}
 use Rattle.digest_leaves.proofs.Finishing.{the-start-asks, cutting-asks, no-leaf-is-cut}
 use denote.Struct.Laws as LL
@@ -175,10 +173,10 @@ module _ {M : Type 1} (𝓤 : URA M) (H : Heap 𝓤) (A : Atoms 𝓤) (W : Given
         qed W (‵ (flft κ₀ q₀) ∷ ‵ (flft κ₁ q₁) ∷ ‵ (flft κ₂ q₂) ∷ ‵ (flft κ₃ q₃) ∷ ‵ (flft κ₄ q₄) ∷ ‵ (ShrSlice (named 0) κ₀ Entry-type.the-row .own (record { ptr = (b-list, o-list); name = γ-list; now = list }) (sliceVal (b-list, o-list) n-list ∷ [])) ∷ ‵ (ShrSlice (named 1) κ₁ u8 .own (record { ptr = (b-store, o-store); name = γ-store; now = store }) (sliceVal (b-store, o-store) n-store ∷ [])) ∷ ‵ (ShrSlice (named 2) κ₂ u8 .own (record { ptr = (b-page, o-page); name = γ-page; now = page }) (sliceVal (b-page, o-page) n-page ∷ [])) ∷ ‵ (MutSlice (named 3) κ₃ u8 .own (record { ptr = (b-area, o-area); name = γ-area; now = area }) (sliceVal (b-area, o-area) n-area ∷ [])) ∷ ‵ (MutSlice (named 4) κ₄ u8 .own (record { ptr = (b-tickets, o-tickets); name = γ-tickets; now = tickets }) (sliceVal (b-tickets, o-tickets) n-tickets ∷ [])) ∷ []) ∵ k-says ! req $ k-nothing ! $ k-owned ! usize (Is usize) (uint-makes 𝓤 H A W w64) size _ is-size $ k-fjoin ! $ k-move ! (10 ∷ 0 ∷ []) $ k-fjoin ! $ k-move ! (9 ∷ 0 ∷ []) $ k-fjoin ! $ k-owned ! usize (Is usize) (uint-makes 𝓤 H A W w64) target _ is-target $ k-fjoin ! $ k-owned ! Progress-type.the-row (Is Progress-type.the-row) (LL.makes Progress-type.the-type Progress-laws.the-plain 𝓤 H A) start _ is-start $ k-fjoin ! $ k-owned ! usize (Is usize) (uint-makes 𝓤 H A W w64) n _ is-n $ k-fjoin ! $ k-move ! (8 ∷ 0 ∷ []) $ k-fjoin ! $ k-move ! (7 ∷ 0 ∷ []) $ k-fjoin ! $ k-move ! (6 ∷ 0 ∷ []) $ k-fjoin ! $ k-owned ! Work-type.the-row (Is Work-type.the-row) (LL.makes Work-type.the-type Work-laws.the-plain 𝓤 H A) work _ is-work $ k-fjoin ! $ k-nothing ! $ k-move ! (6 ∷ 0 ∷ []) $ k-join ! $ k-move ! (5 ∷ 0 ∷ []) $ k-join ! $ k-move ! (4 ∷ 0 ∷ []) $ k-join ! $ k-move ! (3 ∷ 0 ∷ []) $ k-join ! $ k-move ! (2 ∷ 0 ∷ []) $ k-join ! $ k-frame ! $ k-done !
 
   abbrev Said₄ : (work : Work) (list : List Entry) (store : List ℕ) (page : List ℕ) (n : ℕ) (start : Progress) (target : ℕ) (area : List ℕ) (tickets : List ℕ) (size : ℕ) (r : Progress) (area-exit : List ℕ) (tickets-exit : List ℕ) → Type 0
-  Said₄ work list store page n start target area tickets size r area-exit tickets-exit = Along size work (rowsOf (list)) (keysOf (list)) (store) (page) (area) (tickets) (cutOn size work (list) (store) (page)) r (area-exit) (tickets-exit)
+  Said₄ work list store page n start target area tickets size r area-exit tickets-exit = AlongOn size work (list) (store) (page) (area) (tickets) r (area-exit) (tickets-exit)
 
 module _ {M : Type 1} (𝓤 : URA M) (H : Heap 𝓤) (A : Atoms 𝓤) (W : Given 𝓤 H A) (at-mem : Memory → SProp 𝓤) (run : Routine → Fun 𝓤)
-    (κ₀ κ₁ κ₂ κ₃ κ₄ : Lft) (q₀ q₁ q₂ q₃ q₄ : Share) (work : Work) (is-work : Is Work-type.the-row work (mach-Work work ∷ [])) (b-list o-list : ℕ) (γ-list : GName) (list : List Entry) (room-list : Room Entry-type.the-row (length list)) (b-store o-store : ℕ) (γ-store : GName) (store : List ℕ) (room-store : Room u8 (length store)) (b-page o-page : ℕ) (γ-page : GName) (page : List ℕ) (room-page : Room u8 (length page)) (n : ℕ) (n-fits : n < 2 ^ 64) (b-area o-area : ℕ) (γ-area : GName) (area : List ℕ) (room-area : Room u8 (length area)) (b-tickets o-tickets : ℕ) (γ-tickets : GName) (tickets : List ℕ) (room-tickets : Room u8 (length tickets)) (size : ℕ) (size-fits : size < 2 ^ 64) (req : (Gives size work (rowsOf (list)) (keysOf (list)) (store) (page) (area) (tickets)) × (n ≡ count (page))) where
+    (κ₀ κ₁ κ₂ κ₃ κ₄ : Lft) (q₀ q₁ q₂ q₃ q₄ : Share) (work : Work) (is-work : Is Work-type.the-row work (mach-Work work ∷ [])) (b-list o-list : ℕ) (γ-list : GName) (list : List Entry) (room-list : Room Entry-type.the-row (length list)) (b-store o-store : ℕ) (γ-store : GName) (store : List ℕ) (room-store : Room u8 (length store)) (b-page o-page : ℕ) (γ-page : GName) (page : List ℕ) (room-page : Room u8 (length page)) (n : ℕ) (n-fits : n < 2 ^ 64) (b-area o-area : ℕ) (γ-area : GName) (area : List ℕ) (room-area : Room u8 (length area)) (b-tickets o-tickets : ℕ) (γ-tickets : GName) (tickets : List ℕ) (room-tickets : Room u8 (length tickets)) (size : ℕ) (size-fits : size < 2 ^ 64) (req : (GivesOn size work (list) (store) (page) (area) (tickets)) × (n ≡ count (page))) where
   abbrev ref-list : List Entry → RefT (List Entry)
   ref-list zs = record { ptr = (b-list, o-list); name = γ-list; now = zs }
 
@@ -233,7 +231,7 @@ module _ {M : Type 1} (𝓤 : URA M) (H : Heap 𝓤) (A : Atoms 𝓤) (W : Given
   abbrev Post : Val → SProp 𝓤
   Post = walkOf 𝓤 H A own.ended stayed (own.clauses 𝓤 H A at-mem run) .post (((κ₀, (κ₁, (κ₂, (κ₃, (κ₄, tt))))), (q₀, (q₁, (q₂, (q₃, (q₄, tt))))), tt, the-args, the-vals), tt)
 
-  the-exit : (r : Progress) (w : Val) → Is Progress-type.the-row r (w ∷ []) → (area-exit : List ℕ) → length area-exit ≡ length area → (tickets-exit : List ℕ) → length tickets-exit ≡ length tickets → (Along size work (rowsOf (list)) (keysOf (list)) (store) (page) (area) (tickets) (cutOn size work (list) (store) (page)) r (area-exit) (tickets-exit)) → ent 𝓤 (⋆ 𝓤 H A (‵ (flft κ₀ q₀) ∷ ‵ (flft κ₁ q₁) ∷ ‵ (flft κ₂ q₂) ∷ ‵ (flft κ₃ q₃) ∷ ‵ (flft κ₄ q₄) ∷ ‵ (Own-list list) ∷ ‵ (Own-store store) ∷ ‵ (Own-page page) ∷ ‵ (Own-area area-exit) ∷ ‵ (Own-tickets tickets-exit) ∷ [])) (Post w)
+  the-exit : (r : Progress) (w : Val) → Is Progress-type.the-row r (w ∷ []) → (area-exit : List ℕ) → length area-exit ≡ length area → (tickets-exit : List ℕ) → length tickets-exit ≡ length tickets → (AlongOn size work (list) (store) (page) (area) (tickets) r (area-exit) (tickets-exit)) → ent 𝓤 (⋆ 𝓤 H A (‵ (flft κ₀ q₀) ∷ ‵ (flft κ₁ q₁) ∷ ‵ (flft κ₂ q₂) ∷ ‵ (flft κ₃ q₃) ∷ ‵ (flft κ₄ q₄) ∷ ‵ (Own-list list) ∷ ‵ (Own-store store) ∷ ‵ (Own-page page) ∷ ‵ (Own-area area-exit) ∷ ‵ (Own-tickets tickets-exit) ∷ [])) (Post w)
   the-exit r w is area-exit len-area tickets-exit len-tickets fact-of =
       qed W (‵ (flft κ₀ q₀) ∷ ‵ (flft κ₁ q₁) ∷ ‵ (flft κ₂ q₂) ∷ ‵ (flft κ₃ q₃) ∷ ‵ (flft κ₄ q₄) ∷ ‵ (Own-list list) ∷ ‵ (Own-store store) ∷ ‵ (Own-page page) ∷ ‵ (Own-area area-exit) ∷ ‵ (Own-tickets tickets-exit) ∷ []) ∵ k-suffices ! _ (ends-at 𝓤 H A own.ended stayed (own.clauses 𝓤 H A at-mem run) W (((κ₀, (κ₁, (κ₂, (κ₃, (κ₄, tt))))), (q₀, (q₁, (q₂, (q₃, (q₄, tt))))), tt, the-args, the-vals), tt) w r (tt, (tt, (tt, (tt, (tt, (area-exit, (tickets-exit, (tt, tt)))))))) (tt, (tt, (tt, (tt, (tt, (len-area, (len-tickets, (tt, tt))))))))) $ k-says ! fact-of $ k-nothing ! $ k-move ! (5 ∷ 0 ∷ []) $ k-join ! $ k-move ! (4 ∷ 0 ∷ []) $ k-join ! $ k-move ! (3 ∷ 0 ∷ []) $ k-join ! $ k-move ! (2 ∷ 0 ∷ []) $ k-join ! $ k-move ! (1 ∷ 0 ∷ []) $ k-join ! $ k-frame ! $ k-nothing ! $ k-owned ! usize (Is usize) (uint-makes 𝓤 H A W w64) size _ (refl, size-fits) $ k-fjoin ! $ k-move ! (5 ∷ 0 ∷ []) $ k-fjoin ! $ k-move ! (4 ∷ 0 ∷ []) $ k-fjoin ! $ k-owned ! usize (Is usize) (uint-makes 𝓤 H A W w64) n _ (refl, n-fits) $ k-fjoin ! $ k-move ! (3 ∷ 0 ∷ []) $ k-fjoin ! $ k-move ! (2 ∷ 0 ∷ []) $ k-fjoin ! $ k-move ! (1 ∷ 0 ∷ []) $ k-fjoin ! $ k-owned ! Work-type.the-row (Is Work-type.the-row) (LL.makes Work-type.the-type Work-laws.the-plain 𝓤 H A) work _ is-work $ k-fjoin ! $ k-owned ! Progress-type.the-row (Is Progress-type.the-row) (LL.makes Progress-type.the-type Progress-laws.the-plain 𝓤 H A) r _ is $ k-move ! (1 ∷ 0 ∷ []) $ k-done !
 
@@ -383,7 +381,7 @@ module _ {M : Type 1} (𝓤 : URA M) (H : Heap 𝓤) (A : Atoms 𝓤) (W : Given
   cut-leaves-walks : Walks 𝓤 H A own.ended stayed (WpFn 𝓤 H (𝓣 .C) (𝓣 .Λ) code.function) (own.clauses 𝓤 H A mem run)
   cut-leaves-walks = walked 𝓤 H A own.ended stayed (own.clauses 𝓤 H A mem run) (WpFn 𝓤 H (𝓣 .C) (𝓣 .Λ) code.function)
       (λ κs. (LL.vals Work-type.the-type Work-laws.the-laws, (slice-vals, (slice-vals, (slice-vals, (uint-vals w64, (slice-vals, (slice-vals, (uint-vals w64, tt))))))))) (λ κs. (LL.tells Work-type.the-type Work-laws.the-laws, (shr-slice-tells (named 0) (κs .0) Entry-type.the-row, (shr-slice-tells (named 1) (κs .1 .0) u8, (shr-slice-tells (named 2) (κs .1 .1 .0) u8, (uint-tells w64, (mut-slice-tells (named 3) (κs .1 .1 .1 .0) u8, (mut-slice-tells (named 4) (κs .1 .1 .1 .1 .0) u8, (uint-tells w64, tt)))))))))
-      (λ κs qs bounds a g are. needs 𝓤 ((Gives (a .1 .1 .1 .1 .1 .1 .1 .0) (a .0) (rowsOf ((a .1 .0 .now))) (keysOf ((a .1 .0 .now))) ((a .1 .1 .0 .now)) ((a .1 .1 .1 .0 .now)) ((a .1 .1 .1 .1 .1 .0 .now)) ((a .1 .1 .1 .1 .1 .1 .0 .now))) × ((a .1 .1 .1 .1 .0) ≡ count ((a .1 .1 .1 .0 .now)))) _ (λ req. walk 𝓤 H A W mem run (κs .0) (κs .1 .0) (κs .1 .1 .0) (κs .1 .1 .1 .0) (κs .1 .1 .1 .1 .0) (qs .0) (qs .1 .0) (qs .1 .1 .0) (qs .1 .1 .1 .0) (qs .1 .1 .1 .1 .0) (a .0) (are .0) (a .1 .0 .ptr .0) (a .1 .0 .ptr .1) (a .1 .0 .name) (a .1 .0 .now) (are .1 .0 .0 .1) (a .1 .1 .0 .ptr .0) (a .1 .1 .0 .ptr .1) (a .1 .1 .0 .name) (a .1 .1 .0 .now) (are .1 .1 .0 .0 .1) (a .1 .1 .1 .0 .ptr .0) (a .1 .1 .1 .0 .ptr .1) (a .1 .1 .1 .0 .name) (a .1 .1 .1 .0 .now) (are .1 .1 .1 .0 .0 .1) (a .1 .1 .1 .1 .0) (are .1 .1 .1 .1 .0 .1) (a .1 .1 .1 .1 .1 .0 .ptr .0) (a .1 .1 .1 .1 .1 .0 .ptr .1) (a .1 .1 .1 .1 .1 .0 .name) (a .1 .1 .1 .1 .1 .0 .now) (are .1 .1 .1 .1 .1 .0 .0 .1) (a .1 .1 .1 .1 .1 .1 .0 .ptr .0) (a .1 .1 .1 .1 .1 .1 .0 .ptr .1) (a .1 .1 .1 .1 .1 .1 .0 .name) (a .1 .1 .1 .1 .1 .1 .0 .now) (are .1 .1 .1 .1 .1 .1 .0 .0 .1) (a .1 .1 .1 .1 .1 .1 .1 .0) (are .1 .1 .1 .1 .1 .1 .1 .0 .1) req 𝓣 known₁ known₂ known₃ known₄))
+      (λ κs qs bounds a g are. needs 𝓤 ((GivesOn (a .1 .1 .1 .1 .1 .1 .1 .0) (a .0) ((a .1 .0 .now)) ((a .1 .1 .0 .now)) ((a .1 .1 .1 .0 .now)) ((a .1 .1 .1 .1 .1 .0 .now)) ((a .1 .1 .1 .1 .1 .1 .0 .now))) × ((a .1 .1 .1 .1 .0) ≡ count ((a .1 .1 .1 .0 .now)))) _ (λ req. walk 𝓤 H A W mem run (κs .0) (κs .1 .0) (κs .1 .1 .0) (κs .1 .1 .1 .0) (κs .1 .1 .1 .1 .0) (qs .0) (qs .1 .0) (qs .1 .1 .0) (qs .1 .1 .1 .0) (qs .1 .1 .1 .1 .0) (a .0) (are .0) (a .1 .0 .ptr .0) (a .1 .0 .ptr .1) (a .1 .0 .name) (a .1 .0 .now) (are .1 .0 .0 .1) (a .1 .1 .0 .ptr .0) (a .1 .1 .0 .ptr .1) (a .1 .1 .0 .name) (a .1 .1 .0 .now) (are .1 .1 .0 .0 .1) (a .1 .1 .1 .0 .ptr .0) (a .1 .1 .1 .0 .ptr .1) (a .1 .1 .1 .0 .name) (a .1 .1 .1 .0 .now) (are .1 .1 .1 .0 .0 .1) (a .1 .1 .1 .1 .0) (are .1 .1 .1 .1 .0 .1) (a .1 .1 .1 .1 .1 .0 .ptr .0) (a .1 .1 .1 .1 .1 .0 .ptr .1) (a .1 .1 .1 .1 .1 .0 .name) (a .1 .1 .1 .1 .1 .0 .now) (are .1 .1 .1 .1 .1 .0 .0 .1) (a .1 .1 .1 .1 .1 .1 .0 .ptr .0) (a .1 .1 .1 .1 .1 .1 .0 .ptr .1) (a .1 .1 .1 .1 .1 .1 .0 .name) (a .1 .1 .1 .1 .1 .1 .0 .now) (are .1 .1 .1 .1 .1 .1 .0 .0 .1) (a .1 .1 .1 .1 .1 .1 .1 .0) (are .1 .1 .1 .1 .1 .1 .1 .0 .1) req 𝓣 known₁ known₂ known₃ known₄))
 
   cut-leaves-meets : Meets 𝓤 H A own.signature (WpFn 𝓤 H (𝓣 .C) (𝓣 .Λ) code.function) (own.spec 𝓤 H A mem run)
   cut-leaves-meets = walk-meets 𝓤 H A own.ended stayed W (goes-none 𝓤 H A W 5 (λ _. Work-type.the-row) yes (λ κs x f. refl), (goes-none-slice 𝓤 H A W 5 (0 ∷ []) tt (plain (λ _. Entry-type.the-row)) yes, (goes-none-slice 𝓤 H A W 5 (1 ∷ []) tt (plain (λ _. u8)) yes, (goes-none-slice 𝓤 H A W 5 (2 ∷ []) tt (plain (λ _. u8)) yes, (goes-none 𝓤 H A W 5 (λ _. usize) yes (λ κs x f. refl), (goes-slice 𝓤 H A W 5 3 tt (plain (λ _. u8)), (goes-slice 𝓤 H A W 5 4 tt (plain (λ _. u8)), (goes-none 𝓤 H A W 5 (λ _. usize) yes (λ κs x f. refl), tt)))))))) (own.clauses 𝓤 H A mem run)

@@ -46,12 +46,11 @@ use denote.Triple.Table.{entered, cited}
 use denote.Triple.Walked.{needs, Stays, stay-none, stay-none-slice, stay-slice, walkOf, goes-none, goes-none-slice, goes-slice, Walks, ends-at, walked, walk-meets, says as k-says}
 use denote.Exit.{yes}
 use denote.Signature.{plain}
-use Rattle.leaf_work.specs.Flat.{rowsOf, keysOf}
-use Rattle.leaf_give.specs.Steps.{Along, LeafThere, LeafGiven}
-use Rattle.digest_leaves.specs.Leaves.{cutOn, CutAsked, whileCut}
+use Rattle.digest_leaves.specs.Leaves.{CutAsked, AlongOn, whileCut}
+use Rattle.leaf_work.specs.Flat.{rowsOf}
 use Rattle.leaf_cut.specs.Steps.{Spread, CursorIn, Leafed}
 use Rattle.digest_leaf.specs.Consuming.{gaugeOf}
-use Rattle.leaf_work.specs.Lent.{cutoffOf}
+use Rattle.digest_give.specs.Giving.{LeafOn, LeafGivenOn}
 use Rattle.digest_leaves.proofs.LeafByLeaf.{Upon, the-first-can-be-sought, upon-first, a-leaf-is-there, the-next-can-be-sought, upon-next, upon-last}
 use denote.Struct.Laws as LL
 use Rattle.leaf_entries.proofs.Locals.{tyAt}
@@ -237,12 +236,12 @@ module _ {M : Type 1} (𝓤 : URA M) (H : Heap 𝓤) (A : Atoms 𝓤) (W : Given
     abbrev to₆ : (Callee₆ 𝓤 H A at-mem run) .Ghost
     to₆ = (((κ₀, (κ₁, (κ₂, (κ₃, (κ₄, tt))))), (q₀, (q₁, (q₂, (q₃, (q₄, tt))))), tt, args₆, (sliceVal (b-list, o-list) n-list ∷ [], (sliceVal (b-store, o-store) n-store ∷ [], (sliceVal (b-page, o-page) n-page ∷ [], (w-span ∷ [], (w-p ∷ [], (w-leaf ∷ [], (w-at ∷ [], (w-work ∷ [], (sliceVal (b-area, o-area) n-area ∷ [], (sliceVal (b-tickets, o-tickets) n-tickets ∷ [], (w-size ∷ [], tt)))))))))))), tt)
 
-    asks₆ : Is Span-type.the-row span (w-span ∷ []) → Is Progress-type.the-row p (w-p ∷ []) → Is Gauge-type.the-row leaf (w-leaf ∷ []) → Is Cursor-type.the-row at (w-at ∷ []) → Is Work-type.the-row work (w-work ∷ []) → Is usize size (w-size ∷ []) → (LeafThere size (rowsOf (list)) (keysOf (list)) (store) (page) span p leaf at (length (area)) (length (tickets))) → ent 𝓤 (⋆ 𝓤 H A (‵ (flft κ₀ q₀) ∷ ‵ (flft κ₁ q₁) ∷ ‵ (flft κ₂ q₂) ∷ ‵ (flft κ₃ q₃) ∷ ‵ (flft κ₄ q₄) ∷ ‵ (ShrSlice (named 0) κ₀ Entry-type.the-row .own (record { ptr = (b-list, o-list); name = γ-list; now = list }) (sliceVal (b-list, o-list) n-list ∷ [])) ∷ ‵ (ShrSlice (named 1) κ₁ u8 .own (record { ptr = (b-store, o-store); name = γ-store; now = store }) (sliceVal (b-store, o-store) n-store ∷ [])) ∷ ‵ (ShrSlice (named 2) κ₂ u8 .own (record { ptr = (b-page, o-page); name = γ-page; now = page }) (sliceVal (b-page, o-page) n-page ∷ [])) ∷ ‵ (MutSlice (named 3) κ₃ u8 .own (record { ptr = (b-area, o-area); name = γ-area; now = area }) (sliceVal (b-area, o-area) n-area ∷ [])) ∷ ‵ (MutSlice (named 4) κ₄ u8 .own (record { ptr = (b-tickets, o-tickets); name = γ-tickets; now = tickets }) (sliceVal (b-tickets, o-tickets) n-tickets ∷ [])) ∷ [])) ((Callee₆ 𝓤 H A at-mem run) .pre to₆)
+    asks₆ : Is Span-type.the-row span (w-span ∷ []) → Is Progress-type.the-row p (w-p ∷ []) → Is Gauge-type.the-row leaf (w-leaf ∷ []) → Is Cursor-type.the-row at (w-at ∷ []) → Is Work-type.the-row work (w-work ∷ []) → Is usize size (w-size ∷ []) → (LeafOn size (list) (store) (page) span p leaf at (length (area)) (length (tickets))) → ent 𝓤 (⋆ 𝓤 H A (‵ (flft κ₀ q₀) ∷ ‵ (flft κ₁ q₁) ∷ ‵ (flft κ₂ q₂) ∷ ‵ (flft κ₃ q₃) ∷ ‵ (flft κ₄ q₄) ∷ ‵ (ShrSlice (named 0) κ₀ Entry-type.the-row .own (record { ptr = (b-list, o-list); name = γ-list; now = list }) (sliceVal (b-list, o-list) n-list ∷ [])) ∷ ‵ (ShrSlice (named 1) κ₁ u8 .own (record { ptr = (b-store, o-store); name = γ-store; now = store }) (sliceVal (b-store, o-store) n-store ∷ [])) ∷ ‵ (ShrSlice (named 2) κ₂ u8 .own (record { ptr = (b-page, o-page); name = γ-page; now = page }) (sliceVal (b-page, o-page) n-page ∷ [])) ∷ ‵ (MutSlice (named 3) κ₃ u8 .own (record { ptr = (b-area, o-area); name = γ-area; now = area }) (sliceVal (b-area, o-area) n-area ∷ [])) ∷ ‵ (MutSlice (named 4) κ₄ u8 .own (record { ptr = (b-tickets, o-tickets); name = γ-tickets; now = tickets }) (sliceVal (b-tickets, o-tickets) n-tickets ∷ [])) ∷ [])) ((Callee₆ 𝓤 H A at-mem run) .pre to₆)
     asks₆ is-span is-p is-leaf is-at is-work is-size req =
         qed W (‵ (flft κ₀ q₀) ∷ ‵ (flft κ₁ q₁) ∷ ‵ (flft κ₂ q₂) ∷ ‵ (flft κ₃ q₃) ∷ ‵ (flft κ₄ q₄) ∷ ‵ (ShrSlice (named 0) κ₀ Entry-type.the-row .own (record { ptr = (b-list, o-list); name = γ-list; now = list }) (sliceVal (b-list, o-list) n-list ∷ [])) ∷ ‵ (ShrSlice (named 1) κ₁ u8 .own (record { ptr = (b-store, o-store); name = γ-store; now = store }) (sliceVal (b-store, o-store) n-store ∷ [])) ∷ ‵ (ShrSlice (named 2) κ₂ u8 .own (record { ptr = (b-page, o-page); name = γ-page; now = page }) (sliceVal (b-page, o-page) n-page ∷ [])) ∷ ‵ (MutSlice (named 3) κ₃ u8 .own (record { ptr = (b-area, o-area); name = γ-area; now = area }) (sliceVal (b-area, o-area) n-area ∷ [])) ∷ ‵ (MutSlice (named 4) κ₄ u8 .own (record { ptr = (b-tickets, o-tickets); name = γ-tickets; now = tickets }) (sliceVal (b-tickets, o-tickets) n-tickets ∷ [])) ∷ []) ∵ k-says ! req $ k-nothing ! $ k-owned ! usize (Is usize) (uint-makes 𝓤 H A W w64) size _ is-size $ k-fjoin ! $ k-move ! (10 ∷ 0 ∷ []) $ k-fjoin ! $ k-move ! (9 ∷ 0 ∷ []) $ k-fjoin ! $ k-owned ! Work-type.the-row (Is Work-type.the-row) (LL.makes Work-type.the-type Work-laws.the-plain 𝓤 H A) work _ is-work $ k-fjoin ! $ k-owned ! Cursor-type.the-row (Is Cursor-type.the-row) (LL.makes Cursor-type.the-type Cursor-laws.the-plain 𝓤 H A) at _ is-at $ k-fjoin ! $ k-owned ! Gauge-type.the-row (Is Gauge-type.the-row) (LL.makes Gauge-type.the-type Gauge-laws.the-plain 𝓤 H A) leaf _ is-leaf $ k-fjoin ! $ k-owned ! Progress-type.the-row (Is Progress-type.the-row) (LL.makes Progress-type.the-type Progress-laws.the-plain 𝓤 H A) p _ is-p $ k-fjoin ! $ k-owned ! Span-type.the-row (Is Span-type.the-row) (LL.makes Span-type.the-type Span-laws.the-plain 𝓤 H A) span _ is-span $ k-fjoin ! $ k-move ! (8 ∷ 0 ∷ []) $ k-fjoin ! $ k-move ! (7 ∷ 0 ∷ []) $ k-fjoin ! $ k-move ! (6 ∷ 0 ∷ []) $ k-fjoin ! $ k-nothing ! $ k-move ! (6 ∷ 0 ∷ []) $ k-join ! $ k-move ! (5 ∷ 0 ∷ []) $ k-join ! $ k-move ! (4 ∷ 0 ∷ []) $ k-join ! $ k-move ! (3 ∷ 0 ∷ []) $ k-join ! $ k-move ! (2 ∷ 0 ∷ []) $ k-join ! $ k-frame ! $ k-done !
 
   abbrev Said₆ : (list : List Entry) (store : List ℕ) (page : List ℕ) (span : Span) (p : Progress) (leaf : Gauge) (at : Cursor) (work : Work) (area : List ℕ) (tickets : List ℕ) (size : ℕ) (r : Progress) (area-exit : List ℕ) (tickets-exit : List ℕ) → Type 0
-  Said₆ list store page span p leaf at work area tickets size r area-exit tickets-exit = LeafGiven size (rowsOf (list)) (keysOf (list)) (store) (page) span p leaf at (cutoffOf work) (area) (tickets) r (area-exit) (tickets-exit)
+  Said₆ list store page span p leaf at work area tickets size r area-exit tickets-exit = LeafGivenOn size (list) (store) (page) span p leaf at work (area) (tickets) r (area-exit) (tickets-exit)
 
 module _ {M : Type 1} (𝓤 : URA M) (H : Heap 𝓤) (A : Atoms 𝓤) (W : Given 𝓤 H A) (at-mem : Memory → SProp 𝓤) (run : Routine → Fun 𝓤)
     (κ₀ κ₁ κ₂ κ₃ κ₄ : Lft) (q₀ q₁ q₂ q₃ q₄ : Share) (work : Work) (is-work : Is Work-type.the-row work (mach-Work work ∷ [])) (b-list o-list : ℕ) (γ-list : GName) (list : List Entry) (room-list : Room Entry-type.the-row (length list)) (b-store o-store : ℕ) (γ-store : GName) (store : List ℕ) (room-store : Room u8 (length store)) (b-page o-page : ℕ) (γ-page : GName) (page : List ℕ) (room-page : Room u8 (length page)) (n : ℕ) (n-fits : n < 2 ^ 64) (start : Progress) (is-start : Is Progress-type.the-row start (mach-Progress start ∷ [])) (target : ℕ) (target-fits : target < 2 ^ 64) (b-area o-area : ℕ) (γ-area : GName) (area : List ℕ) (room-area : Room u8 (length area)) (b-tickets o-tickets : ℕ) (γ-tickets : GName) (tickets : List ℕ) (room-tickets : Room u8 (length tickets)) (size : ℕ) (size-fits : size < 2 ^ 64) (req : CutAsked size work (list) (store) (page) (area) (tickets) n start target) where
@@ -300,7 +299,7 @@ module _ {M : Type 1} (𝓤 : URA M) (H : Heap 𝓤) (A : Atoms 𝓤) (W : Given
   abbrev Post : Val → SProp 𝓤
   Post = walkOf 𝓤 H A own.ended stayed (own.clauses 𝓤 H A at-mem run) .post (((κ₀, (κ₁, (κ₂, (κ₃, (κ₄, tt))))), (q₀, (q₁, (q₂, (q₃, (q₄, tt))))), tt, the-args, the-vals), tt)
 
-  the-exit : (r : Progress) (w : Val) → Is Progress-type.the-row r (w ∷ []) → (area-exit : List ℕ) → length area-exit ≡ length area → (tickets-exit : List ℕ) → length tickets-exit ≡ length tickets → (Along size work (rowsOf (list)) (keysOf (list)) (store) (page) (area) (tickets) (cutOn size work (list) (store) (page)) r (area-exit) (tickets-exit)) → ent 𝓤 (⋆ 𝓤 H A (‵ (flft κ₀ q₀) ∷ ‵ (flft κ₁ q₁) ∷ ‵ (flft κ₂ q₂) ∷ ‵ (flft κ₃ q₃) ∷ ‵ (flft κ₄ q₄) ∷ ‵ (Own-list list) ∷ ‵ (Own-store store) ∷ ‵ (Own-page page) ∷ ‵ (Own-area area-exit) ∷ ‵ (Own-tickets tickets-exit) ∷ [])) (Post w)
+  the-exit : (r : Progress) (w : Val) → Is Progress-type.the-row r (w ∷ []) → (area-exit : List ℕ) → length area-exit ≡ length area → (tickets-exit : List ℕ) → length tickets-exit ≡ length tickets → (AlongOn size work (list) (store) (page) (area) (tickets) r (area-exit) (tickets-exit)) → ent 𝓤 (⋆ 𝓤 H A (‵ (flft κ₀ q₀) ∷ ‵ (flft κ₁ q₁) ∷ ‵ (flft κ₂ q₂) ∷ ‵ (flft κ₃ q₃) ∷ ‵ (flft κ₄ q₄) ∷ ‵ (Own-list list) ∷ ‵ (Own-store store) ∷ ‵ (Own-page page) ∷ ‵ (Own-area area-exit) ∷ ‵ (Own-tickets tickets-exit) ∷ [])) (Post w)
   the-exit r w is area-exit len-area tickets-exit len-tickets fact-of =
       qed W (‵ (flft κ₀ q₀) ∷ ‵ (flft κ₁ q₁) ∷ ‵ (flft κ₂ q₂) ∷ ‵ (flft κ₃ q₃) ∷ ‵ (flft κ₄ q₄) ∷ ‵ (Own-list list) ∷ ‵ (Own-store store) ∷ ‵ (Own-page page) ∷ ‵ (Own-area area-exit) ∷ ‵ (Own-tickets tickets-exit) ∷ []) ∵ k-suffices ! _ (ends-at 𝓤 H A own.ended stayed (own.clauses 𝓤 H A at-mem run) W (((κ₀, (κ₁, (κ₂, (κ₃, (κ₄, tt))))), (q₀, (q₁, (q₂, (q₃, (q₄, tt))))), tt, the-args, the-vals), tt) w r (tt, (tt, (tt, (tt, (tt, (tt, (tt, (area-exit, (tickets-exit, (tt, tt)))))))))) (tt, (tt, (tt, (tt, (tt, (tt, (tt, (len-area, (len-tickets, (tt, tt))))))))))) $ k-says ! fact-of $ k-nothing ! $ k-move ! (5 ∷ 0 ∷ []) $ k-join ! $ k-move ! (4 ∷ 0 ∷ []) $ k-join ! $ k-move ! (3 ∷ 0 ∷ []) $ k-join ! $ k-move ! (2 ∷ 0 ∷ []) $ k-join ! $ k-move ! (1 ∷ 0 ∷ []) $ k-join ! $ k-frame ! $ k-nothing ! $ k-owned ! usize (Is usize) (uint-makes 𝓤 H A W w64) size _ (refl, size-fits) $ k-fjoin ! $ k-move ! (5 ∷ 0 ∷ []) $ k-fjoin ! $ k-move ! (4 ∷ 0 ∷ []) $ k-fjoin ! $ k-owned ! usize (Is usize) (uint-makes 𝓤 H A W w64) target _ (refl, target-fits) $ k-fjoin ! $ k-owned ! Progress-type.the-row (Is Progress-type.the-row) (LL.makes Progress-type.the-type Progress-laws.the-plain 𝓤 H A) start _ is-start $ k-fjoin ! $ k-owned ! usize (Is usize) (uint-makes 𝓤 H A W w64) n _ (refl, n-fits) $ k-fjoin ! $ k-move ! (3 ∷ 0 ∷ []) $ k-fjoin ! $ k-move ! (2 ∷ 0 ∷ []) $ k-fjoin ! $ k-move ! (1 ∷ 0 ∷ []) $ k-fjoin ! $ k-owned ! Work-type.the-row (Is Work-type.the-row) (LL.makes Work-type.the-type Work-laws.the-plain 𝓤 H A) work _ is-work $ k-fjoin ! $ k-owned ! Progress-type.the-row (Is Progress-type.the-row) (LL.makes Progress-type.the-type Progress-laws.the-plain 𝓤 H A) r _ is $ k-move ! (1 ∷ 0 ∷ []) $ k-done !
 
@@ -353,7 +352,7 @@ module _ {M : Type 1} (𝓤 : URA M) (H : Heap 𝓤) (A : Atoms 𝓤) (W : Given
     steps i S less known len-area len-tickets r₅ f₅ r₆ zs₆ f₆ r₇ f₇ r₈ f₈ =
         upon-next size work list store page area tickets n start target req r₄ r₁ f₁ r₂ f₂ (state₀ S) (state₁ S) (list-area S) (list-tickets S) (state₂ S) i known less r₅ f₅ r₆ (zs₆ .1 .1 .1 .1 .1 .1 .1 .1 .0) (zs₆ .1 .1 .1 .1 .1 .1 .1 .1 .1 .0) f₆ r₇ f₇ r₈ f₈
 
-    ends : (i : ℕ) (S : St) → (state₂ S) ≤ i → Known i S → length (list-area S) ≡ length area → length (list-tickets S) ≡ length tickets → Along size work (rowsOf (list)) (keysOf (list)) (store) (page) (area) (tickets) (cutOn size work (list) (store) (page)) (state₀ S) ((list-area S)) ((list-tickets S))
+    ends : (i : ℕ) (S : St) → (state₂ S) ≤ i → Known i S → length (list-area S) ≡ length area → length (list-tickets S) ≡ length tickets → AlongOn size work (list) (store) (page) (area) (tickets) (state₀ S) ((list-area S)) ((list-tickets S))
     ends i S past known len-area len-tickets = upon-last size work list store page area tickets n start target req r₄ r₁ f₁ r₂ f₂ (state₀ S) (state₁ S) (list-area S) (list-tickets S) (state₂ S) i known past len-area
 
     module _ (𝓣 : Tables 𝓤 H) (known₁ : Triple 𝓤 (𝓣 .C #leaf-cut·span-of) (Callee₁ 𝓤 H A at-mem run)) (known₂ : Triple 𝓤 (𝓣 .C #digest-leaves·limit-of) (Callee₂ 𝓤 H A at-mem run)) (known₃ : Triple 𝓤 (𝓣 .C #digest-leaf·consume-and-update-until) (Callee₃ 𝓤 H A at-mem run)) (known₄ : Triple 𝓤 (𝓣 .C #digest-leaves·while-cut) (Callee₄ 𝓤 H A at-mem run)) (known₅ : Triple 𝓤 (𝓣 .C #digest-leaves·leaf-of) (Callee₅ 𝓤 H A at-mem run)) (known₆ : Triple 𝓤 (𝓣 .C #digest-give·give-leaf) (Callee₆ 𝓤 H A at-mem run)) where

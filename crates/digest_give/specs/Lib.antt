@@ -1,0 +1,2 @@
+-- One leaf off the list, given out.
+pub mod Giving
