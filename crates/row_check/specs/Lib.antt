@@ -1,0 +1,3 @@
+-- What refuses a row and its changes.
+pub mod Verdict
+pub mod Steps
