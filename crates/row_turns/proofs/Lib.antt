@@ -5,4 +5,6 @@ pub mod Rows
 pub mod Turning
 pub mod NewRow
 pub mod Asked
+pub mod Separators
+pub mod Middle
 pub mod Examples
