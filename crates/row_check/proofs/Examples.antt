@@ -3,16 +3,23 @@ use mathlib.Core.Path.{_≡_, refl}
 use mathlib.Core.Bool.{false}
 use mathlib.Core.List.{List, [], _∷_, _++_}
 use Prim.Native.Nat.{ℕ}
-use Rattle.bit_ops.specs.Key.{num, ltKey}
+use lib.ListN.{replicate}
+use Rattle.bit_ops.specs.Key.{num, bytesOf, ltKey, eqKey}
+use Rattle.bit_ops.specs.Separate.{shared, sharedBits, leading, separateOf}
 use Rattle.bit_ops.specs.Steps.{zeros}
-use Rattle.leaf_node.specs.Limits.{bodyLimit, recordLimit, valueLimit, mergeBelow}
+use Rattle.leaf_node.specs.Limits.{bodyLimit, recordLimit, valueLimit, mergeBelow, bulkAbove, bulkTarget}
 use Rattle.leaf_node.specs.Record.{Record, values, total}
 use Rattle.leaf_node.specs.Page.{word, count, keyAt, numberAt, flagAt, offsetAt, start, lengthAt, valueAt, recordAt, run, recordsBetween, records}
 use Rattle.leaf_node.specs.Good.{allBelow, offsetStep, offsetInside, offsetsRight, valueFits, valuesFit, keyStep, keysRise, pageVerdict}
 use Rattle.leaf_node.specs.Build.{le16, tagged, pointers, build}
+use Rattle.leaf_model.specs.Cut.{targetOf, cut, cutAll}
+use Rattle.leaf_model.specs.Work.{plan}
+use Rattle.leaf_work.specs.declared.Entry.{Entry}
+use Rattle.leaf_work.specs.Lent.{blank, insertAt}
 use Rattle.leaf_work.specs.Verdict.{baseVerdict}
-use Rattle.row_changes.specs.Packed.{keyOf, isPut, lengthOf, valueLength}
+use Rattle.row_changes.specs.Packed.{keyOf, isPut, flagOf, lengthOf, valueLength}
 use Rattle.row_changes.specs.Tests.{putBody}
+use Rattle.row_check.specs.Outcome.{RowOutcome, rowOutcome}
 use Rattle.row_check.specs.Verdict.{lower, lentRowVerdict, callVerdict, rowVerdict}
 
 abbrev key : ℕ → List ℕ
@@ -104,3 +111,38 @@ calls-are-refused = record {
   long-value = refl;
   backwards = refl;
 }
+
+-- ---- the call whole, on a list of three entries and buffers that hold nines
+
+abbrev nines : ℕ → List ℕ
+nines n = replicate n 9
+
+abbrev list : List Entry
+list = replicate 3 (insertAt 9 9 (key 9) 9)
+
+abbrev deletes : ℕ → List ℕ
+deletes b = key b ++ zeros 8
+
+-- a page of two records, of which one is deleted
+abbrev done : RowOutcome
+done = rowOutcome 98 list (nines 98) (page (10 ∷ 20 ∷ [])) (key 0 ∷ []) (deletes 10 ∷ []) [] (nines 197) (nines 131)
+
+abbrev written : RowOutcome
+written = record { refusal = 0; count = 1; list = replicate 3 blank; store = zeros 98; area = page (20 ∷ []) ++ nines 99; tickets = (2 ∷ zeros 32) ++ nines 98 }
+
+-- the same with a short area
+abbrev refused : RowOutcome
+refused = rowOutcome 98 list (nines 98) (page (10 ∷ 20 ∷ [])) (key 0 ∷ []) (deletes 10 ∷ []) [] (nines 195) (nines 131)
+
+-- four new values without a base, one more than the list has entries
+abbrev cleared : RowOutcome
+cleared = rowOutcome 98 list (nines 98) [] [] (puts 1 0 ∷ puts 2 0 ∷ puts 3 0 ∷ puts 4 0 ∷ []) [] (nines 295) (nines 196)
+
+pub record Outcomes : Type 0 where
+  pub it-is-done : done ≡ written
+  pub it-is-refused : refused ≡ record { refusal = 17; count = 0; list = list; store = nines 98; area = nines 195; tickets = nines 131 }
+  pub all-is-cleared : cleared ≡ record { refusal = 15; count = 0; list = replicate 3 blank; store = zeros 98; area = zeros 295; tickets = zeros 196 }
+
+pub outcomes-of-a-row-call : Outcomes
+unfolding num ltKey bodyLimit recordLimit valueLimit mergeBelow values total word count keyAt numberAt flagAt offsetAt start lengthAt valueAt recordAt run recordsBetween records allBelow offsetStep offsetInside offsetsRight valueFits valuesFit keyStep keysRise pageVerdict le16 tagged pointers build baseVerdict keyOf isPut lengthOf valueLength putBody lower lentRowVerdict callVerdict rowVerdict eqKey flagOf targetOf cut cutAll plan shared sharedBits leading separateOf bytesOf bulkAbove bulkTarget rowOutcome
+outcomes-of-a-row-call = record { it-is-done = refl; it-is-refused = refl; all-is-cleared = refl }

@@ -10,8 +10,8 @@ use lib.ListN.{length, drop}
 use borrow.Author.Tests.{eqb-true, eqb-false, leb-true}
 use Rattle.leaf_node.specs.Limits.{PageSize, bodyLimit, mergeBelow, valueLimit}
 use Rattle.leaf_node.specs.Page.{records}
-use Rattle.leaf_node.specs.Good.{pageVerdict}
-use Rattle.leaf_node.specs.Fits.{All}
+use Rattle.leaf_node.specs.Good.{Good, pageVerdict}
+use Rattle.leaf_node.specs.Fits.{All, nil, cons}
 use Rattle.leaf_node.proofs.Verdicts.{accepted-pages-are-the-good-ones}
 use Rattle.leaf_model.specs.Work.{zeroKey}
 use Rattle.leaf_model.proofs.Tests.{and-left, and-right}
@@ -171,3 +171,10 @@ module _ (size : ℕ) (q : PageSize size) (list store : ℕ) (pages : List ℕ) 
       rw (same-length (rowTurned size list store old edits .row), ← row-length size pages separators, ← inserted-bodies-are-those-of-the-entries changes values (passing .there))
       (asked.the-pages-asked-are-enough size list store q even old edits (passing .row) (right-edits .fitting) n) in
       (le-trans (mul-le-mul-right size few) (passing .area-room), le-trans (mul-le-mul-right 65 few) (passing .ticket-room))
+
+  pub new-pages-are-good : All (λ x. Good size (x .page)) newRow
+  new-pages-are-good = all-good (new.the-new-row-is-a-row size list store q old edits (passing .row) (passing .from-zero) right-edits n .0)
+    where
+      all-good : {xs : List RowLeaf} → IsRow size xs → All (λ x. Good size (x .page)) xs
+      all-good row[] = nil
+      all-good (row∷ l h) = cons (l .good) (all-good h)

@@ -2,4 +2,5 @@
 pub mod Leaves
 pub mod Calls
 pub mod Facts
+pub mod Outcomes
 pub mod Examples
