@@ -29,7 +29,8 @@ wholePages size pages separators = eqb pages (separators * size)
 unfoldable pub lower : ℕ → ℕ → ℕ
 lower v w = cond (eqb v accepted) w (cond (eqb w accepted) v (cond (ltb w v) w v))
 
--- Nos. 2 to 5 of every page, "with 6 one that doesn't rise": a separator that isn't below the next, or a key outside them. The lowest number over all leaves, v being that of those before.
+-- Nos. 2 to 5 of every page, "with 6 one that doesn't rise": a separator that isn't below the next, or a key outside them. The lowest number over all
+-- leaves, v being that of those before.
 abbrev pub leavesVerdict : ℕ → ℕ → List RowLeaf → ℕ
 leavesVerdict size v [] = v
 leavesVerdict size v (x ∷ xs) = leavesVerdict size (lower v (baseVerdict size (x .page) (x .separator) (cutoffBy xs))) xs

@@ -1,5 +1,5 @@
--- Document 02, M-101: "The call asks for twice the old pages, plus the inserted bodies / 2047 rounded up". The pages asked are always enough, where half a body limit is a whole number,
--- as with pages of 4,096 bytes: before each digest there is room for what it asks for. Assumes nothing.
+-- Document 02, M-101: "The call asks for twice the old pages, plus the inserted bodies / 2047 rounded up". The pages asked are always enough, where a full page is no more than
+-- two leaves of the least body, as with pages of 4,096 bytes: before each digest there is room for what it asks for. Assumes nothing.
 use mathlib.Core.Path.{_≡_, refl, sym, ap, _∙_}
 use mathlib.Core.Bool.{Bool, true, false, cond}
 use mathlib.Core.Option.{Option, none, some}
@@ -29,6 +29,10 @@ use Rattle.row_turns.specs.Changes.{Edit, changedAll, taken, behind, ins
 use Rattle.row_turns.specs.Turns.{Turned, made, digestedTo, loaded, turn, turns, nothingYet, rowTurned}
 use Rattle.row_turns.proofs.Changing.{all-changed, all-taken, all-behind}
 use Rattle.row_turns.proofs.Turning.{loaded-is, accepted-before, copiedTo, TurnIs, was-loaded, was-copied, a-turn-is}
+
+pub a-full-page-of-4096-bytes-is-two-least-leaves : bodyLimit 4096 ≤ 2 * mergeBelow 4096
+unfolding bodyLimit mergeBelow
+a-full-page-of-4096-bytes-is-two-least-leaves = omega arith
 
 -- ---- what changes add to a body
 
@@ -67,7 +71,8 @@ inserted-in-turn c (e ∷ es) = go (inserted-in-turn c es) (belowCutoff c (e .ke
 
 -- ---- the turns
 
--- what the turns have used, with what is still to come, is within b: each leaf of the new row takes 2,047, each old leaf that is still to come brings twice that, each change what it inserts
+-- what the turns have used, with what is still to come, is within b: each leaf of the new row takes 2,047, each old leaf that is still to come brings
+-- twice that, each change what it inserts
 pub record Within (size b : ℕ) (t : Turned) (xs : List RowLeaf) (es : List Edit) : Type 0 where
   pub fitting : All (Fitting size) (t .kept)
   pub used : length (t .row) * mergeBelow size + body (t .kept) + (length xs * (2 * mergeBelow size) + insertedBody es) ≤ b

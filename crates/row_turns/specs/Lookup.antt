@@ -1,4 +1,5 @@
 -- Document 02, M-101: "For every key, lookup in the new row gives the change if there is one, else the old value and flag, or absence."
+-- What lookup answers is a value with its flag, as a change has them, or absence.
 use mathlib.Core.Bool.{true, false}
 use mathlib.Core.Option.{Option, none, some}
 use mathlib.Core.List.{List, [], _∷_}
@@ -12,9 +13,7 @@ use Rattle.leaf_model.specs.Work.{Change, belowCutoff}
 use Rattle.row_turns.specs.Row.{RowLeaf, cutoffBy}
 use Rattle.row_turns.specs.Changes.{Edit}
 
--- what lookup answers: a value and its flag, as a change has them, or absence
-
--- by what reading a page by key answers: the bytes at the place that it names
+-- in a page, by what `leaf_page_get` answers: the bytes at the place that it names
 abbrev pub answered : List ℕ → GetReply → Option Change
 answered page (get.Refused n) = none
 answered page (get.Absent i) = none
