@@ -85,7 +85,8 @@ enum LeafRefusal {
     LEAF_KEY_PAST_CUTOFF = 14, /* the key is at or above the cutoff */
     LEAF_LIST_FULL = 15,       /* more records would be pending than the list has entries */
     LEAF_STORE_FULL = 16,      /* their values would have more bytes than the store */
-    LEAF_SHORT_AREA = 17       /* area or ticket buffer is shorter than the digest asks */
+    LEAF_SHORT_AREA = 17,      /* area or ticket buffer is shorter than the digest asks */
+    LEAF_LONG_ROW = 18         /* a row starts above zero, or has over 16 pages; no call here takes a row */
 };
 
 /* ---- what is lent and answered. A key whose flag isn't set is zeros. */

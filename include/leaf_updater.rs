@@ -6,7 +6,7 @@
 
 pub type Key = [u8; 32];
 
-/// The refusals, by document 01's numbers; 0 is an accepted call.
+/// The refusals, by the numbers of documents 01 and 02; 0 is an accepted call.
 pub mod refusal {
     pub const PAGE_LENGTH: u8 = 1;
     pub const TOO_MANY_RECORDS: u8 = 2;
@@ -25,6 +25,7 @@ pub mod refusal {
     pub const LIST_FULL: u8 = 15;
     pub const STORE_FULL: u8 = 16;
     pub const SHORT_AREA: u8 = 17;
+    pub const LONG_ROW: u8 = 18;
 }
 
 /// The work record. A flag beside a key says whether the key is there; else it is zeros.

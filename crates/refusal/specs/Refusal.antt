@@ -72,3 +72,9 @@ storeFull = 16
 -- "area or ticket buffer under what digest asks"
 abbrev pub shortArea : ℕ
 shortArea = 17
+
+-- ---- document 02
+
+-- M-101: "one that starts above zero or is too long"
+abbrev pub longRow : ℕ
+longRow = 18

@@ -1,4 +1,4 @@
-// Document 01, "Refusals by number": the numbers by which calls refuse, each beside the trade's word for it.
+// Document 01, "Refusals by number": the numbers by which calls refuse, each beside the trade's word for it; behind them those of document 02.
 // 0 stands for an accepted call. `specs/Refusal.antt` has the same numbers for the definitions.
 
 pub const PAGE_LENGTH: u8 = 1; // "cracked mould": the page isn't as long as a page
@@ -34,3 +34,5 @@ pub const LIST_FULL: u8 = 15; // "list full": the pending count would pass the l
 pub const STORE_FULL: u8 = 16; // "store full": the pending values would pass the store
 
 pub const SHORT_AREA: u8 = 17; // "short area": area or ticket buffer under what digest asks
+
+pub const LONG_ROW: u8 = 18; // M-101: a row that starts above zero or is too long

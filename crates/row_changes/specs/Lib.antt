@@ -1,0 +1,3 @@
+-- Changes as calls that take many are lent them.
+pub mod Packed
+pub mod Tests
