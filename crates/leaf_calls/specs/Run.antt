@@ -1,5 +1,5 @@
 -- A sequence of the exported calls, each of which is known by its contract alone (`leaf_updater/specs/Calls.antt`,
--- `leaf_split/specs/Digests.antt`): what a call is lent beside the page and its arguments is what the last one left. Document 01, "The tally of
+-- `digest/specs/Digests.antt`): what a call is lent beside the page and its arguments is what the last one left. Document 01, "The tally of
 -- demand 3".
 use mathlib.Core.Path.{_≡_}
 use mathlib.Core.Bool.{Bool, true, false, cond}
