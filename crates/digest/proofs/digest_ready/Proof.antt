@@ -41,8 +41,7 @@ use denote.Exit.{yes}
 use denote.Signature.{plain}
 use Rattle.leaf_node.specs.Page.{count}
 use Rattle.digest.specs.Steps.{outcomeOf, Ready, Made, stepBy}
-use Rattle.leaf_work.specs.Flat.{rowsOf, keysOf}
-use Rattle.leaf_give.specs.Giving.{Gives, GivenOut}
+use Rattle.digest_leaves.specs.Leaves.{GivesOn, GivenOn}
 use Rattle.digest_keep.specs.Keeping.{KeepsIn, KeptIn}
 use Rattle.digest.proofs.Digesting.{its-leaves-can-be-given, what-is-left-can-be-kept, the-outcome-is-made}
 use denote.Struct.Laws as LL
@@ -127,12 +126,12 @@ module _ {M : Type 1} (𝓤 : URA M) (H : Heap 𝓤) (A : Atoms 𝓤) (W : Given
     abbrev to₁ : (Callee₁ 𝓤 H A at-mem run) .Ghost
     to₁ = (((κ₀, (κ₁, (κ₂, (κ₃, (κ₄, tt))))), (q₀, (q₁, (q₂, (q₃, (q₄, tt))))), tt, args₁, (w-work ∷ [], (sliceVal (b-list, o-list) n-list ∷ [], (sliceVal (b-store, o-store) n-store ∷ [], (sliceVal (b-page, o-page) n-page ∷ [], (w-n ∷ [], (sliceVal (b-area, o-area) n-area ∷ [], (sliceVal (b-tickets, o-tickets) n-tickets ∷ [], (w-size ∷ [], tt))))))))), tt)
 
-    asks₁ : Is Work-type.the-row work (w-work ∷ []) → Is usize n (w-n ∷ []) → Is usize size (w-size ∷ []) → ((Gives size work (rowsOf (list)) (keysOf (list)) (store) (page) (area) (tickets)) × (n ≡ count (page))) → ent 𝓤 (⋆ 𝓤 H A (‵ (flft κ₀ q₀) ∷ ‵ (flft κ₁ q₁) ∷ ‵ (flft κ₂ q₂) ∷ ‵ (flft κ₃ q₃) ∷ ‵ (flft κ₄ q₄) ∷ ‵ (ShrSlice (named 0) κ₀ Entry-type.the-row .own (record { ptr = (b-list, o-list); name = γ-list; now = list }) (sliceVal (b-list, o-list) n-list ∷ [])) ∷ ‵ (ShrSlice (named 1) κ₁ u8 .own (record { ptr = (b-store, o-store); name = γ-store; now = store }) (sliceVal (b-store, o-store) n-store ∷ [])) ∷ ‵ (ShrSlice (named 2) κ₂ u8 .own (record { ptr = (b-page, o-page); name = γ-page; now = page }) (sliceVal (b-page, o-page) n-page ∷ [])) ∷ ‵ (MutSlice (named 3) κ₃ u8 .own (record { ptr = (b-area, o-area); name = γ-area; now = area }) (sliceVal (b-area, o-area) n-area ∷ [])) ∷ ‵ (MutSlice (named 4) κ₄ u8 .own (record { ptr = (b-tickets, o-tickets); name = γ-tickets; now = tickets }) (sliceVal (b-tickets, o-tickets) n-tickets ∷ [])) ∷ [])) ((Callee₁ 𝓤 H A at-mem run) .pre to₁)
+    asks₁ : Is Work-type.the-row work (w-work ∷ []) → Is usize n (w-n ∷ []) → Is usize size (w-size ∷ []) → ((GivesOn size work (list) (store) (page) (area) (tickets)) × (n ≡ count (page))) → ent 𝓤 (⋆ 𝓤 H A (‵ (flft κ₀ q₀) ∷ ‵ (flft κ₁ q₁) ∷ ‵ (flft κ₂ q₂) ∷ ‵ (flft κ₃ q₃) ∷ ‵ (flft κ₄ q₄) ∷ ‵ (ShrSlice (named 0) κ₀ Entry-type.the-row .own (record { ptr = (b-list, o-list); name = γ-list; now = list }) (sliceVal (b-list, o-list) n-list ∷ [])) ∷ ‵ (ShrSlice (named 1) κ₁ u8 .own (record { ptr = (b-store, o-store); name = γ-store; now = store }) (sliceVal (b-store, o-store) n-store ∷ [])) ∷ ‵ (ShrSlice (named 2) κ₂ u8 .own (record { ptr = (b-page, o-page); name = γ-page; now = page }) (sliceVal (b-page, o-page) n-page ∷ [])) ∷ ‵ (MutSlice (named 3) κ₃ u8 .own (record { ptr = (b-area, o-area); name = γ-area; now = area }) (sliceVal (b-area, o-area) n-area ∷ [])) ∷ ‵ (MutSlice (named 4) κ₄ u8 .own (record { ptr = (b-tickets, o-tickets); name = γ-tickets; now = tickets }) (sliceVal (b-tickets, o-tickets) n-tickets ∷ [])) ∷ [])) ((Callee₁ 𝓤 H A at-mem run) .pre to₁)
     asks₁ is-work is-n is-size req =
         qed W (‵ (flft κ₀ q₀) ∷ ‵ (flft κ₁ q₁) ∷ ‵ (flft κ₂ q₂) ∷ ‵ (flft κ₃ q₃) ∷ ‵ (flft κ₄ q₄) ∷ ‵ (ShrSlice (named 0) κ₀ Entry-type.the-row .own (record { ptr = (b-list, o-list); name = γ-list; now = list }) (sliceVal (b-list, o-list) n-list ∷ [])) ∷ ‵ (ShrSlice (named 1) κ₁ u8 .own (record { ptr = (b-store, o-store); name = γ-store; now = store }) (sliceVal (b-store, o-store) n-store ∷ [])) ∷ ‵ (ShrSlice (named 2) κ₂ u8 .own (record { ptr = (b-page, o-page); name = γ-page; now = page }) (sliceVal (b-page, o-page) n-page ∷ [])) ∷ ‵ (MutSlice (named 3) κ₃ u8 .own (record { ptr = (b-area, o-area); name = γ-area; now = area }) (sliceVal (b-area, o-area) n-area ∷ [])) ∷ ‵ (MutSlice (named 4) κ₄ u8 .own (record { ptr = (b-tickets, o-tickets); name = γ-tickets; now = tickets }) (sliceVal (b-tickets, o-tickets) n-tickets ∷ [])) ∷ []) ∵ k-says ! req $ k-nothing ! $ k-owned ! usize (Is usize) (uint-makes 𝓤 H A W w64) size _ is-size $ k-fjoin ! $ k-move ! (10 ∷ 0 ∷ []) $ k-fjoin ! $ k-move ! (9 ∷ 0 ∷ []) $ k-fjoin ! $ k-owned ! usize (Is usize) (uint-makes 𝓤 H A W w64) n _ is-n $ k-fjoin ! $ k-move ! (8 ∷ 0 ∷ []) $ k-fjoin ! $ k-move ! (7 ∷ 0 ∷ []) $ k-fjoin ! $ k-move ! (6 ∷ 0 ∷ []) $ k-fjoin ! $ k-owned ! Work-type.the-row (Is Work-type.the-row) (LL.makes Work-type.the-type Work-laws.the-plain 𝓤 H A) work _ is-work $ k-fjoin ! $ k-nothing ! $ k-move ! (6 ∷ 0 ∷ []) $ k-join ! $ k-move ! (5 ∷ 0 ∷ []) $ k-join ! $ k-move ! (4 ∷ 0 ∷ []) $ k-join ! $ k-move ! (3 ∷ 0 ∷ []) $ k-join ! $ k-move ! (2 ∷ 0 ∷ []) $ k-join ! $ k-frame ! $ k-done !
 
   abbrev Said₁ : (work : Work) (list : List Entry) (store : List ℕ) (page : List ℕ) (n : ℕ) (area : List ℕ) (tickets : List ℕ) (size : ℕ) (r : Progress) (area-exit : List ℕ) (tickets-exit : List ℕ) → Type 0
-  Said₁ work list store page n area tickets size r area-exit tickets-exit = GivenOut size work (rowsOf (list)) (keysOf (list)) (store) (page) (area) (tickets) r (area-exit) (tickets-exit)
+  Said₁ work list store page n area tickets size r area-exit tickets-exit = GivenOn size work (list) (store) (page) (area) (tickets) r (area-exit) (tickets-exit)
 
   -- `prepare_merge_ops`, whatever it is called with
   module _ (κ₀ : Lft) (q₀ : Share) (κ₁ : Lft) (q₁ : Share) (κ₂ : Lft) (q₂ : Share) (work : Work) (w-work : Val) (b-list o-list : ℕ) (γ-list : GName) (list : List Entry) (n-list : ℕ) (b-store o-store : ℕ) (γ-store : GName) (store : List ℕ) (n-store : ℕ) (b-page o-page : ℕ) (γ-page : GName) (page : List ℕ) (n-page : ℕ) (n : ℕ) (w-n : Val) (at : Cursor) (w-at : Val) (left : Gauge) (w-left : Val) where
