@@ -150,8 +150,8 @@ pub fn pass_entries(list: &[Entry], page: &[u8], start: Passing) -> Passing
     ensures { λ r. ⌜ (r ≡ passedOver (now (page .entry)) start (now (list .entry))) × (PassingOn r (now (page .entry))) × (All (λ e. length (e .key) ≡ 32) (now (list .entry))) ⌝ }
 {
     let count = first_count(start, list.len());
-    let unused = unused_entries(list, begin_unused(count));
     let at = pass_first(list, page, start, count);
+    let unused = unused_entries(list, begin_unused(count));
     mark(at, unused)
 }
 
