@@ -1,5 +1,7 @@
 // Keys of 32 bytes: their order, the leading bits that two share, and the separator of two.
 // Ported from nomt/src/beatree/ops/bit_ops.rs of thrumdev/nomt: `prefix_len` and `separate`.
+#![tactic(auto)]
+
 ghost use Rattle.std.specs.Prelude.{◌≡◌, ◌+◌, ◌-◌, ◌^◌, ◌<◌, ◌≤◌, length, take, drop};
 ghost use Rattle.bit_ops.specs.Key.{Key, num, lt_key, eq_key};
 ghost use Rattle.bit_ops.specs.Separate.{shared_bits, separate_verdict, separate_leaves};

@@ -1,5 +1,7 @@
 // The digest of a work over its list of entries: its number, its leaves, and what it leaves behind.
 // Ported from nomt/src/beatree/ops/update/leaf_updater.rs of thrumdev/nomt: `LeafUpdater::digest`.
+#![tactic(auto)]
+
 ghost use Rattle.std.specs.Prelude.{◌≡◌, List, length};
 ghost use Rattle.leaf_node.specs.Page.{count};
 ghost use Rattle.leaf_work.specs.declared.Entry as declared;

@@ -1,5 +1,7 @@
 // One leaf off the list, given out: its page into the area, its ticket behind the others.
 // Ported from nomt/src/beatree/ops/update/leaf_updater.rs of thrumdev/nomt: a turn of `try_build_leaves`.
+#![tactic(auto)]
+
 ghost use Rattle.std.specs.Prelude.{◌-◌, length};
 ghost use Rattle.leaf_give.specs.Steps.{TicketAsked};
 ghost use Rattle.digest_leaf.specs.Keys.{KeyAsked};

@@ -5,6 +5,8 @@
 // the store and to an entry behind which nothing is in use, and then moved down to the start. Every entry has a record, there are entries for
 // all that is pending or for what is kept beside the used ones, and the store has room for all that is pending, so that what is raised never
 // covers what is still to be read.
+#![tactic(auto)]
+
 ghost use Rattle.std.specs.Prelude.{◌≡◌, ◌++◌, ◌+◌, ◌-◌, ◌≤◌, length, take, drop};
 ghost use Rattle.leaf_node.specs.Page.{record_at};
 ghost use Rattle.leaf_work.specs.Tests.{bit};

@@ -1,6 +1,8 @@
 // One leaf off the list: where it ends, its page, and the key of what follows it. A loop's turn reads an entry and calls a step by value; the step
 // that tells how far the loop goes ends it where the leaf does.
 // Ported from nomt/src/beatree/ops/update/leaf_updater.rs of thrumdev/nomt: `consume_and_update_until`, `build_leaf` and `op_first_key`.
+#![tactic(auto)]
+
 ghost use Rattle.std.specs.Prelude.{◌≡◌, ◌+◌, ◌-◌, ◌≤◌, ◌<◌, length, take};
 ghost use Rattle.leaf_node.specs.Page.{records_between};
 ghost use Rattle.leaf_node.specs.Build.{pushed, build};

@@ -1,5 +1,7 @@
 // The leaves of a digest, given out over the list: pages into the area, tickets behind one another.
 // Ported from nomt/src/beatree/ops/update/leaf_updater.rs of thrumdev/nomt: `try_build_leaves` and the first half of `digest`.
+#![tactic(auto)]
+
 ghost use Rattle.std.specs.Prelude.{◌≡◌, ◌-◌, ◌≤◌};
 ghost use Rattle.leaf_node.specs.Limits.{PageSize};
 ghost use Rattle.leaf_node.specs.Page.{count};

@@ -1,5 +1,7 @@
 // Next base and cutoff removal: a work that waits or is done is open again.
 // Ported from nomt/src/beatree/ops/update/leaf_updater.rs of thrumdev/nomt: `LeafUpdater::reset_base` and `remove_cutoff`.
+#![tactic(auto)]
+
 ghost use Rattle.std.specs.Prelude.{◌≡◌, ◌≤◌, length};
 ghost use Rattle.refusal.specs.Refusal.{accepted};
 ghost use Rattle.leaf_node.specs.Limits.{PageSize};

@@ -1,4 +1,6 @@
 // Nos. 1 to 7 of document 01, "Refusals by number": what the calls of the updater are lent as a base page, list and store.
+#![tactic(auto)]
+
 ghost use Rattle.std.specs.Prelude.{◌≡◌, length};
 ghost use Rattle.leaf_node.specs.Limits.{PageSize};
 ghost use Rattle.leaf_node.specs.Page.{records};

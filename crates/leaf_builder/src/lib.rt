@@ -1,6 +1,8 @@
 // The builder of leaf pages: records pushed in order into a lent page, cell by cell or as a chunk of another page.
 // Ported from nomt/src/beatree/leaf/node.rs of thrumdev/nomt: `LeafBuilder`. The lent page stands for the Rust's page of
 // the pool; the index of the next record and the place of its value are the caller's.
+#![tactic(auto)]
+
 ghost use Rattle.std.specs.Prelude.{◌≡◌, [], ◌∷◌, ◌++◌, ◌+◌, ◌-◌, ◌≤◌, ◌<◌, length};
 ghost use Rattle.bit_ops.specs.Steps.{zeros};
 ghost use Rattle.leaf_node.specs.Limits.{PageSize};

@@ -1,4 +1,6 @@
 // Soundness of a work, and Nos. 1 to 8 of what a call is lent: one pass over the list, one over the unused bytes of the store.
+#![tactic(auto)]
+
 ghost use Rattle.std.specs.Prelude.{◌≡◌, ◌&&◌, ◌||◌, cond, ◌≤◌, ◌<◌, length};
 ghost use Rattle.leaf_node.specs.Limits.{PageSize};
 ghost use Rattle.leaf_node.specs.Page.{count};

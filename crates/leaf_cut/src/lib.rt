@@ -1,5 +1,7 @@
 // Cutting the pending records into leaves: how large they are, and where each leaf ends. It reads rows and base page, and no value.
 // Ported from nomt/src/beatree/ops/update/leaf_updater.rs of thrumdev/nomt: `LeafGauge`, `consume_and_update_until` and `try_split_keep_chunk`.
+#![tactic(auto)]
+
 ghost use Rattle.std.specs.Prelude.{◌≡◌, ◌&&◌, [], ◌∷◌, ◌+◌, ◌-◌, ◌*◌, ◌≤◌, ◌<◌, leb, length};
 ghost use Rattle.leaf_node.specs.Limits.{PageSize, pages_asked};
 ghost use Rattle.leaf_node.specs.Page.{length_at, run, values_size};

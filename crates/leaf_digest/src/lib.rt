@@ -1,5 +1,7 @@
 // The digest of a work: its number, its leaves, and what it leaves behind.
 // Ported from nomt/src/beatree/ops/update/leaf_updater.rs of thrumdev/nomt: `LeafUpdater::digest`.
+#![tactic(auto)]
+
 ghost use Rattle.std.specs.Prelude.{◌≡◌, ◌&&◌, List, ℕ, ◌*◌, ◌≤◌, leb, length};
 ghost use Rattle.leaf_node.specs.Limits.{PageSize, pages_asked};
 ghost use Rattle.leaf_node.specs.Page.{count};

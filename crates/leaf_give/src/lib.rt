@@ -1,5 +1,7 @@
 // The leaves of a digest, given out: pages into the area, tickets behind one another.
 // Ported from nomt/src/beatree/ops/update/leaf_updater.rs of thrumdev/nomt: `try_build_leaves` and the first half of `digest`.
+#![tactic(auto)]
+
 ghost use Rattle.std.specs.Prelude.{◌≡◌, true, ◌&&◌, ◌+◌, ◌-◌, ◌*◌, ◌≤◌, ltb, length, take};
 ghost use Rattle.std.proofs.Math.Option.{some};
 ghost use Rattle.bit_ops.specs.Separate.{separate_leaves};

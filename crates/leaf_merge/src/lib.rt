@@ -5,6 +5,8 @@
 // and store, the last one first, and then moved down to the start. Every entry has a record, there are rows for all that is pending or
 // for what is kept beside the used entries, and the store has room for all that is pending, so that what is raised never covers what is
 // still to be read.
+#![tactic(auto)]
+
 ghost use Rattle.std.specs.Prelude.{◌≡◌, length};
 ghost use Rattle.leaf_node.specs.Record.{total};
 ghost use Rattle.leaf_node.specs.Page.{count};

@@ -1,5 +1,7 @@
 // Moving rows, keys and bytes within what is lent: up to make room, down to the start, and zeros behind; an insert put among the entries.
 // Ported from nomt/src/beatree/ops/update/leaf_updater.rs of thrumdev/nomt: what `prepare_merge_ops` does to the vector of operations.
+#![tactic(auto)]
+
 ghost use Rattle.std.specs.Prelude.{◌≡◌, ◌-◌, ◌≤◌, ◌<◌, max, length, set, take, drop};
 ghost use Rattle.leaf_model.specs.Basics.{cleared};
 ghost use Rattle.leaf_model.specs.Work.{zero_key};

@@ -11,6 +11,8 @@
 //     | n | [(key ++ offset); n] | ----  | [[u8]; n] |
 //
 // A key has 32 bytes, an offset 2, whose high bit is set for an overflow cell. A value ends where the next begins.
+#![tactic(auto)]
+
 ghost use Rattle.std.specs.Prelude.{◌≡◌, ◌+◌, ◌-◌, ◌^◌, ◌≤◌, ◌<◌, length};
 ghost use Rattle.leaf_node.specs.Limits.{PageSize};
 ghost use Rattle.leaf_node.specs.Page.{word, count, pointer, key_at, number_at, offset_at, flag_at, start, length_at, values_size};

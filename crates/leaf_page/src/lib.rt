@@ -1,5 +1,7 @@
 // The page calls with replies as structs of numbers, since an enum can't cross to C: document 01's number, and the values of each case. A
 // refusal has its number and zeros in every other field.
+#![tactic(auto)]
+
 ghost use Rattle.std.specs.Prelude.{◌≡◌, cond};
 ghost use Rattle.leaf_read.specs.Reply.{key_reply, value_reply, get_reply, size_reply};
 ghost use Rattle.leaf_page.specs.Reply.{key_out, refused_value, found_value, value_out, get_out, size_out};

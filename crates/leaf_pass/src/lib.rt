@@ -1,4 +1,6 @@
 // The pass over the list in which a work's soundness is tested: each entry is held against what was seen before it.
+#![tactic(auto)]
+
 ghost use Rattle.std.specs.Prelude.{◌≡◌, ◌+◌, ◌-◌, ◌≤◌, ◌<◌, length, get_or, take, drop};
 ghost use Rattle.leaf_node.specs.Page.{count};
 ghost use Rattle.leaf_model.specs.Work.{zero_key};

@@ -1,5 +1,7 @@
 // Records raised to the end of rows, keys and store as inserts, the last one first.
 // Ported from nomt/src/beatree/ops/update/leaf_updater.rs of thrumdev/nomt: the records that `prepare_merge_ops` makes operations of.
+#![tactic(auto)]
+
 ghost use Rattle.std.specs.Prelude.{◌≡◌, [], ◌∷◌, ◌≤◌, ◌<◌, length};
 ghost use Rattle.leaf_node.specs.Record.{total};
 ghost use Rattle.leaf_node.specs.Page.{record_at, records_between};

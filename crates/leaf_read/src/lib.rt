@@ -1,5 +1,7 @@
 // Document 01's calls that read a leaf page: a key, a value, the values' size of a range, and `get`. Each checks the whole page.
 // Ported from nomt/src/beatree/leaf/node.rs of thrumdev/nomt: `LeafNode`.
+#![tactic(auto)]
+
 ghost use Rattle.std.specs.Prelude.{◌≡◌, length};
 ghost use Rattle.leaf_node.specs.Limits.{PageSize};
 ghost use Rattle.leaf_node.specs.Good.{page_verdict};

@@ -1,4 +1,6 @@
 // The calls on a work by value: each takes what the pass over its list came to, and the list's length, so that the list may have any form.
+#![tactic(auto)]
+
 ghost use Rattle.std.specs.Prelude.{◌≡◌, List, ℕ, ◌<◌, length};
 ghost use Rattle.leaf_model.specs.Basics.{cleared};
 ghost use Rattle.leaf_work.specs.declared.Entry as declared;

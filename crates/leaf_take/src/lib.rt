@@ -1,4 +1,6 @@
 // The ingest by value: it takes what the pass over its list came to, and answers the entries that are to be listed.
+#![tactic(auto)]
+
 ghost use Rattle.std.specs.Prelude.{◌≡◌, List, ◌+◌, ◌≤◌, length};
 ghost use Rattle.leaf_work.specs.declared.Entry as declared;
 ghost use Rattle.leaf_work.specs.Lent.{blank, insert_at, chunk_of};

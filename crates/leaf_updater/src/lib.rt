@@ -1,6 +1,8 @@
 // The calls as a firmware programmer links them: the calls of documents 01 and 02 under C names with the prefix `leaf_`, refusals by
 // their numbers. No call has a `requires`. An enum can't cross to C, so replies are structs of numbers; `specs/`
 // says which one stands for each case.
+#![tactic(auto)]
+
 ghost use Rattle.std.specs.Prelude.{◌≡◌, cond, length};
 ghost use Rattle.bit_ops.specs.Separate.{shared_bits, separate_verdict, separate_leaves};
 ghost use Rattle.leaf_node.specs.Good.{page_verdict};

@@ -1,5 +1,7 @@
 // The leaf updater: the work record and its entries. `specs/` says what every call does with them; the calls follow.
 // Ported from nomt/src/beatree/ops/update/leaf_updater.rs of thrumdev/nomt: `LeafUpdater`, `LeafGauge` and `LeafOp`.
+#![tactic(auto)]
+
 ghost use Rattle.std.specs.Prelude.{◌≡◌};
 ghost use Rattle.leaf_work.specs.Lent.{separator_of};
 ghost use Rattle.leaf_work.specs.Outcome.{in_scope_of};

@@ -1,5 +1,7 @@
 // What a digest gives of a leaf: its page, written straight from store and base, and its ticket; and the keys between leaves.
 // Ported from nomt/src/beatree/ops/update/leaf_updater.rs of thrumdev/nomt: `build_leaf` and `op_first_key`.
+#![tactic(auto)]
+
 ghost use Rattle.std.specs.Prelude.{◌≡◌, [], ◌∷◌, ◌+◌, ◌≤◌, ◌<◌, length, take};
 ghost use Rattle.bit_ops.specs.Separate.{separate_leaves};
 ghost use Rattle.leaf_node.specs.Record.{total};

@@ -1,4 +1,6 @@
 // Document 02, M-104: the weights of one tree in a page, added up.
+#![tactic(auto)]
+
 ghost use Rattle.std.specs.Prelude.{◌≡◌, ◌≤◌, ◌<◌, length, take};
 ghost use Rattle.leaf_node.specs.Page.{count, record_at, records};
 ghost use Rattle.leaf_node.specs.Steps.{Laid};

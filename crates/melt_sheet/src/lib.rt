@@ -1,4 +1,6 @@
 // Document 02, M-104 and M-106: the melt sheet of a tree in a row of pages.
+#![tactic(auto)]
+
 ghost use Rattle.std.specs.Prelude.{◌≡◌};
 ghost use Rattle.leaf_node.specs.Limits.{PageSize};
 ghost use Rattle.row_check.specs.Verdict.{row_of};

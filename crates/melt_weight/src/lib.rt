@@ -1,4 +1,6 @@
 // Document 02, M-104 and M-106: a weight record read, and the wax total times the factor, rounded once.
+#![tactic(auto)]
+
 ghost use Rattle.std.specs.Prelude.{◌≡◌, ◌+◌, ◌^◌, ◌<◌, ◌≤◌, false, T, length, take, drop, pos};
 ghost use Rattle.std.specs.Float.Ieee.{le};
 ghost use Rattle.std.specs.Float.{fin};

@@ -2,6 +2,8 @@
 //
 //     cell: value_size: u64, value_hash: [u8; 32], pointers: [PageNumber; 1 to 15]
 //     page: n_pointers: u16, n_bytes: u16, pointers: [PageNumber; n_pointers], bytes: [u8; n_bytes], then zeros
+#![tactic(auto)]
+
 ghost use Rattle.std.specs.Prelude.{◌≡◌, false, ◌+◌, ◌*◌, ◌≤◌, ◌<◌, min, length, get_or, take, drop};
 ghost use Rattle.leaf_node.specs.Page.{word};
 ghost use Rattle.leaf_node.specs.Build.{put};

@@ -1,5 +1,7 @@
 // Document 02, M-105: the pages of a cell checked, joined into their value, and freed. Ported from nomt/src/beatree/ops/overflow.rs of thrumdev/nomt: `read_blocking`, `delete`,
 // `parse_page`. The caller lends the pages one behind the other, in the order of their numbers: the cell's, then those that stand in the pages.
+#![tactic(auto)]
+
 ghost use Rattle.std.specs.Prelude.{◌≡◌, ◌++◌, ◌+◌, ◌-◌, ◌*◌, ◌≤◌, ◌<◌, length, drop};
 ghost use Rattle.leaf_node.specs.Build.{put};
 ghost use Rattle.overflow.specs.Read.{all_zero, page_right, numbers_read, pages_in, pages_right, joined_value, cell_numbers_read, freed_numbers};

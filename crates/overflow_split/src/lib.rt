@@ -1,5 +1,7 @@
 // Document 02, M-105: a large value split into overflow pages. Ported from nomt/src/beatree/ops/overflow.rs of thrumdev/nomt: `chunk`. The caller lends the numbers that
 // the Rust allocates, and one area for the pages, in `chunk`'s order.
+#![tactic(auto)]
+
 ghost use Rattle.std.specs.Prelude.{◌≡◌, ◌++◌, ◌+◌, ◌*◌, ◌≤◌, length};
 ghost use Rattle.leaf_node.specs.Build.{put};
 ghost use Rattle.leaf_model.specs.Basics.{joined};

@@ -1,4 +1,6 @@
 // Document 02, M-105: the trials of large values through the proved calls, a line each with what came out and whether that is what is stated.
+#![tactic(auto)]
+
 use libc::STDOUT_FILENO;
 
 fn say(text: &[u8]) {

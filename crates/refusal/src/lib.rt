@@ -1,5 +1,6 @@
 // Document 01, "Refusals by number": the numbers by which calls refuse, each beside the trade's word for it; behind them those of document 02.
 // 0 stands for an accepted call. `specs/Refusal.antt` has the same numbers for the definitions.
+#![tactic(auto)]
 
 pub const PAGE_LENGTH: u8 = 1; // "cracked mould": the page isn't as long as a page
 

@@ -1,5 +1,7 @@
 // Replays the Rust's recorded answers on the proved calls, and prints how many passed and failed. The files of data/ were
 // made by `compare record`; compare/src/record/ says what they hold.
+#![tactic(auto)]
+
 mod bytes;
 mod keys;
 mod pages;

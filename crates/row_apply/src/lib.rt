@@ -1,5 +1,7 @@
 // Document 02, M-101: a whole row in one call.
 // Ported from nomt/src/beatree/ops/update/leaf_stage.rs of thrumdev/nomt: `run`, for one worker.
+#![tactic(auto)]
+
 ghost use Rattle.std.specs.Prelude.{◌≡◌, length};
 ghost use Rattle.bit_ops.specs.Steps.{zeros};
 ghost use Rattle.leaf_node.specs.Fits.{All};

@@ -1,5 +1,7 @@
 // Document 02, M-101: changes as calls that take many are lent them, entries of 40 bytes over one buffer of values, and what is asked of them: Nos. 10, 12, 13, and the
 // bodies that they insert.
+#![tactic(auto)]
+
 ghost use Rattle.std.specs.Prelude.{◌≡◌, ◌<◌, leb, length};
 ghost use Rattle.row_changes.specs.Packed.{key_of, is_put, flag_of, length_of, value_length};
 ghost use Rattle.row_changes.specs.Tests.{values_length, lengths_fit, keys_rising, put_body, put_bodies};

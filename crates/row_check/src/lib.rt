@@ -1,4 +1,6 @@
 // Document 02, M-101: what refuses a row of pages with their separators, and its changes.
+#![tactic(auto)]
+
 ghost use Rattle.std.specs.Prelude.{◌≡◌, ◌*◌, ◌<◌, length};
 ghost use Rattle.leaf_node.specs.Limits.{PageSize};
 ghost use Rattle.row_changes.specs.Tests.{put_bodies};

@@ -1,4 +1,6 @@
 // Document 02, M-101: the changes that a loaded leaf takes, ingested one after another. Nothing that is lent is checked again between them.
+#![tactic(auto)]
+
 ghost use Rattle.std.specs.Prelude.{◌≡◌, List, [], ◌<◌, length, get_or};
 ghost use Rattle.leaf_work.specs.declared.Entry as declared;
 ghost use Rattle.row_changes.specs.Packed.{key_of};

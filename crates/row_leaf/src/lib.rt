@@ -1,5 +1,7 @@
 // Document 02, M-101: one leaf of a row, loaded or copied.
 // Ported from nomt/src/beatree/ops/update/leaf_stage.rs of thrumdev/nomt: the turns of `run_worker`.
+#![tactic(auto)]
+
 ghost use Rattle.std.specs.Prelude.{◌≡◌, ◌+◌, ◌*◌, ◌≤◌, ◌<◌, length, replicate};
 ghost use Rattle.row_leaf.specs.Leaf.{next_separator, leaf_at, changes_end, is_loaded, Begins, begun_by, CopyThere, LeafCopied};
 ghost use Rattle.leaf_work.specs.Lent.{cutoff_of, separator_of};

@@ -1,5 +1,7 @@
 // Document 02, M-101: the leaves of a row, one after another, each loaded or copied; list and store are the memory of the work inside.
 // Ported from nomt/src/beatree/ops/update/leaf_stage.rs of thrumdev/nomt: `run_worker`.
+#![tactic(auto)]
+
 ghost use Rattle.std.specs.Prelude.{◌≡◌};
 ghost use Rattle.row_leaves.specs.Turns.{nothing_at, until_refused, TurnThere, LeafTurned, RowThere, RowTurned};
 

@@ -1,5 +1,7 @@
 // Document 02, M-101: the tickets of the new row, each leaf's cutoff the next one's separator. A leaf's ticket has no cutoff until the next leaf is known: the leaf behind it may vanish,
 // and bytes behind the last ticket keep what they held.
+#![tactic(auto)]
+
 ghost use Rattle.std.specs.Prelude.{◌≡◌, map, ◌+◌, ◌*◌, ◌≤◌, length, take, drop};
 ghost use Rattle.leaf_node.specs.Ticket.{length_read};
 ghost use Rattle.row_tickets.specs.Linked.{linked, separator_at, linked_all, last_linked, separators_read};

@@ -1,5 +1,7 @@
 // Document 01, "Bench trials", through the proved calls: a line for each trial with what came out, and whether that is
 // what the paper states. A star marks the trials of the proved table. Then trials of document 02's requests.
+#![tactic(auto)]
+
 mod digests;
 mod keys;
 mod line;
