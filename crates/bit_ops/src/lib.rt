@@ -42,7 +42,7 @@ fn word_at(key: &[u8], i: usize) -> u64
 }
 
 // Two keys at the first word in which they differ, or at the last one: which word, and what each key has there.
-#[derive(Drop)]
+#[derive(Clone, Copy)]
 struct Difference {
     at: usize,
     x: u64,

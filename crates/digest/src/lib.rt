@@ -22,7 +22,7 @@ use leaf_step::start;
 use leaf_work::{Entry, Work};
 
 // What a digest answers, and the work record that it leaves.
-#[derive(Drop)]
+#[derive(Clone, Copy)]
 pub struct DigestStep {
     pub reply: LeafGave,
     pub work: Work,

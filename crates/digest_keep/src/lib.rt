@@ -32,7 +32,7 @@ use leaf_write::base_key;
 // ---- one record: its value in the store, and the entry that lists it
 
 // The entry of a record that was raised, and the top below it.
-#[derive(Drop)]
+#[derive(Clone, Copy)]
 struct Lifted {
     top: Top,
     entry: Entry,

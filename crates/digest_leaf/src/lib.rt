@@ -113,7 +113,7 @@ pub fn consume_and_update_until(
 
 // How far a page is filled: how many of the next entry's records are in pages before, how many records are in this one, and where the
 // value of the next one begins.
-#[derive(Drop)]
+#[derive(Clone, Copy)]
 pub struct Place {
     pub skip: usize,
     pub j: usize,

@@ -14,21 +14,21 @@ use leaf_node::size_between;
 use leaf_work::Work;
 
 // How many records, and how many bytes their values have.
-#[derive(Drop)]
+#[derive(Clone, Copy)]
 pub struct Gauge {
     pub count: usize,
     pub bytes: usize,
 }
 
 // Whether leaves are cut, and the body that each aims at.
-#[derive(Drop)]
+#[derive(Clone, Copy)]
 pub struct Target {
     pub cut: bool,
     pub body: usize,
 }
 
 // How far list and base reach: the entries used, where the base's rest begins, how many records the base has.
-#[derive(Drop)]
+#[derive(Clone, Copy)]
 pub struct Span {
     pub used: usize,
     pub low: usize,
@@ -36,7 +36,7 @@ pub struct Span {
 }
 
 // A place among the pending records: an entry, and how many of its records were passed. Entry `used` stands for the base's rest.
-#[derive(Drop)]
+#[derive(Clone, Copy)]
 pub struct Cursor {
     pub entry: usize,
     pub skip: usize,
@@ -44,7 +44,7 @@ pub struct Cursor {
 
 // What an entry or the base's rest has from a cursor on: one insert, whose value is the store's bytes `from` to `to`, or base records
 // `from` to `to`.
-#[derive(Drop)]
+#[derive(Clone, Copy)]
 pub struct Piece {
     pub insert: bool,
     pub from: usize,
@@ -52,7 +52,7 @@ pub struct Piece {
 }
 
 // Whether a leaf was cut, its records and the bytes of their values; where none was cut, those of all that was there.
-#[derive(Drop)]
+#[derive(Clone, Copy)]
 pub struct Ended {
     pub cut: bool,
     pub count: usize,
@@ -60,7 +60,7 @@ pub struct Ended {
 }
 
 // A leaf, or where none was cut all that was there, and the cursor behind it.
-#[derive(Drop)]
+#[derive(Clone, Copy)]
 pub struct Taken {
     pub end: Ended,
     pub at: Cursor,

@@ -28,7 +28,7 @@ use leaf_work::Work;
 use refusal::{OUT_OF_TURN, SHORT_AREA};
 
 // A refusal, the leaves of a digest that is done, or those of one that waits for a merge.
-#[derive(Drop)]
+#[derive(Clone, Copy)]
 pub enum Gave {
     Refused(u8),
     Finished(usize),
@@ -37,7 +37,7 @@ pub enum Gave {
 
 // The reply, with the cutoff that a merge request names, else zeros; and the work record after the call: of a refused call the one that it
 // was given.
-#[derive(Drop)]
+#[derive(Clone, Copy)]
 pub struct Digested {
     pub reply: Gave,
     pub cutoff: [u8; 32],
@@ -47,7 +47,7 @@ pub struct Digested {
 // A digest's answer in numbers, for callers in C: 0 or the refusal, whether it waits for a merge, 1 or 0, how many leaves it gave, and the
 // cutoff for which it waits, else zeros.
 #[repr(C)]
-#[derive(Drop)]
+#[derive(Clone, Copy)]
 pub struct LeafGave {
     pub refusal: u8,
     pub waiting: u8,

@@ -25,7 +25,7 @@ use leaf_write::{build_leaf, next_separator, op_first_key, put_ticket};
 
 // How far a digest has come: the cursor behind the leaves given out, the records behind it, how many leaves there are, where the next
 // ticket begins, and the separator of what follows.
-#[derive(Drop)]
+#[derive(Clone, Copy)]
 pub struct Progress {
     pub at: Cursor,
     pub left: Gauge,
@@ -74,7 +74,7 @@ fn give_page(
 }
 
 // Where the next ticket begins, and the separator of what follows a leaf.
-#[derive(Drop)]
+#[derive(Clone, Copy)]
 struct Ticketed {
     place: usize,
     separator: [u8; 32],
@@ -257,7 +257,7 @@ fn try_build_leaves(
 }
 
 // Where giving leaves begins: all that is pending is left. With `target.cut` leaves are cut off it.
-#[derive(Drop)]
+#[derive(Clone, Copy)]
 pub struct Beginning {
     pub start: Progress,
     pub target: Target,

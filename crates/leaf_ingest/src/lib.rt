@@ -22,14 +22,14 @@ use leaf_work::{Work, is_in_scope};
 use refusal::{KEY_PAST_CUTOFF, KEY_TOO_LOW, LIST_FULL, LONG_VALUE, OUT_OF_TURN, STORE_FULL};
 
 // A new value with its flag, or a deletion. The value's bytes stand beside it; a deletion ignores them.
-#[derive(Drop)]
+#[derive(Clone, Copy)]
 pub enum Change {
     Put(bool),
     Delete,
 }
 
 // A refusal, nothing, or the offset and length of a dropped cell in the base page.
-#[derive(Drop)]
+#[derive(Clone, Copy)]
 pub enum Report {
     Refused(u8),
     Quiet,
@@ -37,7 +37,7 @@ pub enum Report {
 }
 
 // The reply, and the work record after the call: of a refused call the one that it was given.
-#[derive(Drop)]
+#[derive(Clone, Copy)]
 pub struct Ingested {
     pub reply: Report,
     pub work: Work,
@@ -45,7 +45,7 @@ pub struct Ingested {
 
 // What a key takes up of the base: its records up to `stop`. The one at `stop` is dropped where it has the key, and `low` is then
 // where the rest begins. `taken` and `rest` are the value bytes of both.
-#[derive(Drop)]
+#[derive(Clone, Copy)]
 pub struct Kept {
     pub stop: usize,
     pub dropped: bool,
@@ -55,7 +55,7 @@ pub struct Kept {
 }
 
 // An ingest's number, 0 where it is accepted, and what its key takes up.
-#[derive(Drop)]
+#[derive(Clone, Copy)]
 pub struct Admitted {
     pub number: u8,
     pub kept: Kept,

@@ -29,7 +29,7 @@ use refusal::{BAD_OFFSETS, KEYS_NOT_RISING, LONG_PAGE_VALUE, PAGE_LENGTH, TOO_MA
 pub const PAGE_SIZE: usize = 4096;
 
 // Where a value lies in its page, and its overflow flag.
-#[derive(Drop)]
+#[derive(Clone, Copy)]
 pub struct Cell {
     pub offset: usize,
     pub len: usize,
@@ -37,7 +37,7 @@ pub struct Cell {
 }
 
 // Where a key stands among the records: at an index, or absent, with the index at which it would stand.
-#[derive(Drop)]
+#[derive(Clone, Copy)]
 pub enum Place {
     Found(usize),
     Absent(usize),

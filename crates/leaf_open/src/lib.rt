@@ -19,7 +19,7 @@ use refusal::{BAD_BOUNDS, ROOM_LENGTH};
 
 // A refusal, or 0, and the work record after the call: of a refused call the one that it was given.
 #[repr(C)]
-#[derive(Drop)]
+#[derive(Clone, Copy)]
 pub struct Updated {
     pub refusal: u8,
     pub work: Work,

@@ -10,14 +10,14 @@ use leaf_node::Cell;
 use leaf_read::{GetReply, KeyReply, SizeReply, ValueReply};
 
 #[repr(C)]
-#[derive(Drop)]
+#[derive(Clone, Copy)]
 pub struct LeafKey {
     pub refusal: u8,
     pub key: [u8; 32],
 }
 
 #[repr(C)]
-#[derive(Drop)]
+#[derive(Clone, Copy)]
 pub struct LeafValue {
     pub refusal: u8,
     // 1 where `get` finds no such key, else 0
@@ -30,7 +30,7 @@ pub struct LeafValue {
 }
 
 #[repr(C)]
-#[derive(Drop)]
+#[derive(Clone, Copy)]
 pub struct LeafSize {
     pub refusal: u8,
     pub bytes: usize,

@@ -12,7 +12,7 @@ ghost use Rattle.leaf_pass.specs.Pass.{Seeing, Small, is_behind, insert_right, c
 use bit_ops::{less, word_from};
 
 // What the pass over the list knows of the entries that it has seen.
-#[derive(Drop)]
+#[derive(Clone, Copy)]
 pub struct Pass {
     // none of them was wrong
     pub right: bool,
@@ -28,7 +28,7 @@ pub struct Pass {
 }
 
 // What the work record says of its entries, and the longest value.
-#[derive(Drop)]
+#[derive(Clone, Copy)]
 pub struct Bounds {
     pub used: usize,
     pub filled: usize,

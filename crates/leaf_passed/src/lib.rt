@@ -23,7 +23,7 @@ use refusal::{OUT_OF_TURN, ROOM_LENGTH, UNSOUND};
 
 // A pass over a list: the refusal that the page has earned, or 0; whether the entries are looked at; whether the page is read, and how many
 // records it has; what the entries are held against, and what was seen of them.
-#[derive(Drop)]
+#[derive(Clone, Copy)]
 pub struct Passing {
     pub number: u8,
     pub go: bool,
@@ -34,7 +34,7 @@ pub struct Passing {
 }
 
 // Looking for a pending record: whether its entry was found, and the record's index, there or among the records still to come.
-#[derive(Drop)]
+#[derive(Clone, Copy)]
 pub struct Seek {
     pub found: bool,
     pub left: usize,
@@ -42,7 +42,7 @@ pub struct Seek {
 }
 
 // Looking whether the entries behind the used ones are unused: how many are passed over first, and whether none behind them was in use.
-#[derive(Drop)]
+#[derive(Clone, Copy)]
 pub struct Unused {
     pub left: usize,
     pub all: bool,

@@ -23,7 +23,7 @@ pub const BASE: u8 = 2;
 // A refusal, or 0 and a pending record: its holder, and there its value's offset and length, its flag and its key. A refusal
 // has zeros in every other field.
 #[repr(C)]
-#[derive(Drop)]
+#[derive(Clone, Copy)]
 pub struct TwinPlace {
     pub refusal: u8,
     pub holder: u8,

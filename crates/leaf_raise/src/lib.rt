@@ -15,7 +15,7 @@ use leaf_write::base_key;
 
 // How far raising has come: the lowest row and key, where the next value will end in the store that is made, and where it will end in
 // the raised one.
-#[derive(Drop)]
+#[derive(Clone, Copy)]
 pub struct Top {
     pub row: usize,
     pub to: usize,

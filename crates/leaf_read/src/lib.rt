@@ -15,19 +15,19 @@ use leaf_node::{
 use refusal::NO_SUCH_INDEX;
 
 // A refusal, or 0 and a key; the key of a refusal is zeros.
-#[derive(Drop)]
+#[derive(Clone, Copy)]
 pub struct KeyReply {
     pub refusal: u8,
     pub key: [u8; 32],
 }
 
-#[derive(Drop)]
+#[derive(Clone, Copy)]
 pub enum ValueReply {
     Refused(u8),
     At(Cell),
 }
 
-#[derive(Drop)]
+#[derive(Clone, Copy)]
 pub enum GetReply {
     Refused(u8),
     // with the position at which the key would stand, 0 to n
@@ -35,7 +35,7 @@ pub enum GetReply {
     At(Cell),
 }
 
-#[derive(Drop)]
+#[derive(Clone, Copy)]
 pub enum SizeReply {
     Refused(u8),
     Bytes(usize),

@@ -46,7 +46,7 @@ pub fn start_closed(work: Work) -> Passing
 // ---- opening
 
 // What an opening answers and leaves: entries from `from` on are unused then, none where it is refused.
-#[derive(Drop)]
+#[derive(Clone, Copy)]
 pub struct OpenStep {
     pub refusal: u8,
     pub from: usize,

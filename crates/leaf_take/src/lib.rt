@@ -21,7 +21,7 @@ use leaf_work::{Entry, Work};
 
 // An ingest's answer: 0 or the refusal; whether a dropped cell is reported, 1 or 0, and its offset and length in the base page.
 #[repr(C)]
-#[derive(Drop)]
+#[derive(Clone, Copy)]
 pub struct LeafReport {
     pub refusal: u8,
     pub reported: u8,
@@ -30,7 +30,7 @@ pub struct LeafReport {
 }
 
 // What an ingest answers and leaves: the work record, and two entries with their places, past the list's end where there is none.
-#[derive(Drop)]
+#[derive(Clone, Copy)]
 pub struct IngestStep {
     pub reply: LeafReport,
     pub work: Work,

@@ -8,7 +8,7 @@ ghost use Rattle.leaf_work.specs.Outcome.{in_scope_of};
 
 // The work record. Turn and flags are numbers, since any bytes may be lent. A key whose flag isn't set is zeros.
 #[repr(C)]
-#[derive(Drop)]
+#[derive(Clone, Copy)]
 pub struct Work {
     // 1 open, 2 waiting for a merge, 3 done; 0 is none of them, so that zeroed memory is not taken for an open work
     pub turn: u8,
@@ -40,7 +40,7 @@ pub struct Work {
 // An entry of the list. Kind 0: unused. Kind 1: an insert, whose value is the store's bytes `from` to `to`. Kind 2: a chunk, base records
 // `from` to `to`, whose values have `sum` bytes. `to` is the end. What a kind doesn't use is zero.
 #[repr(C)]
-#[derive(Drop)]
+#[derive(Clone, Copy)]
 pub struct Entry {
     pub kind: u8,
     pub flag: u8,

@@ -21,7 +21,7 @@ use leaf_node::{copy_in, key_at};
 // ---- the page of a leaf
 
 // How many records were pushed, and where the value of the next one begins.
-#[derive(Drop)]
+#[derive(Clone, Copy)]
 pub struct Pushed {
     pub count: usize,
     pub at: usize,

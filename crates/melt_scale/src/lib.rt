@@ -12,7 +12,7 @@ use leaf_node::{cell_at, count_of, key_at};
 use melt_weight::{Weight, read};
 
 // What the weights read so far come to.
-#[derive(Drop)]
+#[derive(Clone, Copy)]
 pub struct Scale {
     // none of them was unknown
     pub known: bool,

@@ -11,7 +11,7 @@ ghost use Rattle.melt_weight.specs.Sheet.{whole_above, sheet_of};
 pub const MOST_WAX: u64 = 1099511627776;
 
 // A weight record's value, read: a piece or a sprue in milligrams, a factor, or none of these.
-#[derive(Drop)]
+#[derive(Clone, Copy)]
 pub enum Weight {
     Piece(u64),
     Sprue(u64),
@@ -22,7 +22,7 @@ pub enum Weight {
 // The melt of a tree: its wax in milligrams, its alloy factor, their product rounded once, and the whole milligrams not below it.
 // All but the refusal are 0 where there is one.
 #[repr(C)]
-#[derive(Drop)]
+#[derive(Clone, Copy)]
 pub struct LeafMelt {
     pub refusal: u8,
     pub total: u64,

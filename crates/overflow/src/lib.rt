@@ -17,21 +17,21 @@ use leaf_node::copy_in;
 use refusal::OVERFLOW_LENGTH;
 
 // The number of a page, and how many pages there are: neither is taken for the other.
-#[derive(Drop)]
+#[derive(Clone, Copy)]
 pub struct PageNumber(pub u32);
 
-#[derive(Drop)]
+#[derive(Clone, Copy)]
 pub struct PageCount(pub usize);
 
 // A page's two counts: how many numbers, how many bytes.
-#[derive(Drop)]
+#[derive(Clone, Copy)]
 pub struct Shape {
     pub numbers: usize,
     pub bytes: usize,
 }
 
 // What a cell says, where it is one that a splitting writes.
-#[derive(Drop)]
+#[derive(Clone, Copy)]
 pub struct Decoded {
     pub ok: bool,
     pub size: usize,
@@ -48,14 +48,14 @@ const MAX_PNS: usize = 1023;
 // ---- replies
 
 #[repr(C)]
-#[derive(Drop)]
+#[derive(Clone, Copy)]
 pub struct LeafPageCount {
     pub refusal: u8,
     pub pages: usize,
 }
 
 #[repr(C)]
-#[derive(Drop)]
+#[derive(Clone, Copy)]
 pub struct LeafSplit {
     pub refusal: u8,
     pub cell: [u8; 100],
@@ -64,14 +64,14 @@ pub struct LeafSplit {
 }
 
 #[repr(C)]
-#[derive(Drop)]
+#[derive(Clone, Copy)]
 pub struct LeafJoined {
     pub refusal: u8,
     pub len: usize,
 }
 
 #[repr(C)]
-#[derive(Drop)]
+#[derive(Clone, Copy)]
 pub struct LeafFreed {
     pub refusal: u8,
     pub numbers: usize,

@@ -12,7 +12,7 @@ use libc::STDOUT_FILENO;
 use score::Score;
 
 // What the records of a file hold.
-#[derive(Drop)]
+#[derive(Clone, Copy)]
 enum Kind {
     Keys,
     Pages,

@@ -2,7 +2,7 @@ ghost use Rattle.std.specs.Prelude.{◌≡◌, true, false, not, eqb};
 ghost use Rattle.replay.specs.Counts.{one_more, count_if};
 
 // How many answers passed and failed, and whether the file may hold more.
-#[derive(Drop)]
+#[derive(Clone, Copy)]
 pub struct Score {
     pub passed: u64,
     pub failed: u64,

@@ -48,7 +48,7 @@ const WAIT: usize = 77;
 const BODY: usize = 109;
 
 // What goes on from record to record beside what is lent: the work record and the counts.
-#[derive(Drop)]
+#[derive(Clone, Copy)]
 struct Run {
     work: Work,
     score: Score,
@@ -226,7 +226,7 @@ fn behind(at: usize, n: usize) -> usize
 }
 
 // Where the next leaf of a digest and its ticket begin, and the counts.
-#[derive(Drop)]
+#[derive(Clone, Copy)]
 struct Given {
     leaf: usize,
     ticket: usize,

@@ -20,7 +20,7 @@ use row_leaves::{all_turns, begin_row};
 
 // The row call's answer: 0 or the refusal, and the pages of the new row.
 #[repr(C)]
-#[derive(Drop)]
+#[derive(Clone, Copy)]
 pub struct LeafRow {
     pub refusal: u8,
     pub pages: usize,

@@ -14,7 +14,7 @@ use leaf_work::{Entry, Work};
 use row_changes::{flag_at, key_of, put_at, value_len};
 
 // What the changes of a leaf have come to: 0 or the refusal, the work, and where the next change's value begins.
-#[derive(Drop)]
+#[derive(Clone, Copy)]
 pub struct Taking {
     pub number: u8,
     pub work: Work,
@@ -22,7 +22,7 @@ pub struct Taking {
 }
 
 // A change that was taken, and two entries with their places, past the list's end where there is none.
-#[derive(Drop)]
+#[derive(Clone, Copy)]
 pub struct ChangeStep {
     pub taking: Taking,
     pub at: usize,

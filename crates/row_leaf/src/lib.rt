@@ -21,7 +21,7 @@ use row_ingest::{Taking, take_changes};
 use row_tickets::{link, link_leaves};
 
 // A leaf of the row: its page's place, its separator, and its cutoff where there is one. A row without leaves has an empty one that is no base.
-#[derive(Drop)]
+#[derive(Clone, Copy)]
 pub struct LeafAt {
     pub based: bool,
     pub from: usize,
@@ -33,7 +33,7 @@ pub struct LeafAt {
 
 // What the turns have come to: 0 or the refusal in the middle; the leaves of the new row and the last one's separator; the next change and where its value begins; whether records
 // wait for a merge, and the work that holds them.
-#[derive(Drop)]
+#[derive(Clone, Copy)]
 pub struct RowAt {
     pub number: u8,
     pub leaves: usize,

@@ -60,7 +60,7 @@ fn value_trial(label: &[u8], low: u8, refusal: u8) {
 }
 
 // What building a page answers, and the number bytes of its first record.
-#[derive(Drop)]
+#[derive(Clone, Copy)]
 struct Built {
     reply: u8,
     low: u8,
