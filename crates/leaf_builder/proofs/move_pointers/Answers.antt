@@ -1,0 +1,25 @@
+-- `leaf_builder::move_pointers` meets its contract: after each record the pointers up to it are final, the later ones as before.
+-- Assumes nothing.
+use Rattle.std.proofs.Common.{rules}
+use mathlib.Core.Path.{◌≡◌}
+use Prim.Native.Nat.{◌+◌, ◌-◌, ◌≤◌}
+use Rattle.leaf_node.specs.Page.{pointer}
+use Rattle.leaf_builder.specs.Steps.{PointersUpTo}
+use Rattle.leaf_builder.proofs.Writing.{chunk_shift, closer}
+use Rattle.leaf_builder.proofs.Shifting.{no_pointer_yet, one_pointer_more, all_pointers}
+use Rattle.leaf_builder.proofs.move_pointers.Goals as goal
+
+pub loop-i-init : goal.loop-i-init
+loop-i-init c = (search rules, search rules, search rules, search (no_pointer_yet, rules))
+
+pub push_pointer-requires : goal.push_pointer-requires
+push_pointer-requires c = search (chunk_shift, rules)
+
+pub loop-i-smaller : goal.loop-i-smaller
+loop-i-smaller c = search (closer, rules)
+
+pub loop-i-preserved : goal.loop-i-preserved
+loop-i-preserved c = (search rules, search rules, search rules, search (one_pointer_more, rules))
+
+pub returns : goal.returns
+returns c = search (all_pointers, rules)

@@ -1,0 +1,25 @@
+-- `leaf_builder::push_cells` meets its contract: the records before i are pushed.
+-- Assumes nothing.
+use Rattle.std.proofs.Common.{rules}
+use mathlib.Core.Path.{◌≡◌, refl}
+use Prim.Native.Nat.{◌+◌, ◌-◌, ◌≤◌}
+use lib.ListN.{length}
+use Rattle.leaf_node.specs.Page.{start, records_between}
+use Rattle.leaf_node.specs.Build.{pushed}
+use Rattle.leaf_builder.proofs.Writing.{cells_start, cells_done, cells_end, cells_one, cells_next, cells_more, closer}
+use Rattle.leaf_builder.proofs.push_cells.Goals as goal
+
+pub loop-i-init : goal.loop-i-init
+loop-i-init c = (search rules, search rules, search rules, search rules, search (cells_start, rules), refl)
+
+pub push_record-next-requires : goal.push_record-next-requires
+push_record-next-requires c = search (cells_one, rules)
+
+pub loop-i-smaller : goal.loop-i-smaller
+loop-i-smaller c = search (closer, rules)
+
+pub loop-i-preserved : goal.loop-i-preserved
+loop-i-preserved c = (search rules, search rules, search rules, search (cells_next, rules), search (cells_more, rules), search rules)
+
+pub returns : goal.returns
+returns c = (search (cells_done, rules), search (cells_end, rules))

@@ -1,0 +1,26 @@
+-- `leaf_check::is_sound` meets its contract.
+-- Assumes nothing.
+use Rattle.std.proofs.Common.{rules}
+use Rattle.leaf_check.proofs.Sounds.{wrong_record, not_within, not_clear, the_entries_decide, the_pass_sees, the_filled_part_is_inside}
+use Rattle.leaf_check.proofs.is_sound.Goals as goal
+
+pub returns-then-not-record_right : goal.returns-then-not-record_right
+returns-then-not-record_right c = search (wrong_record, rules)
+
+pub returns-then-not-work-rows : goal.returns-then-not-work-rows
+returns-then-not-work-rows c = search (not_within, rules)
+
+pub zeros_from-requires : goal.zeros_from-requires
+zeros_from-requires c = (search (the_filled_part_is_inside, rules), search rules)
+
+pub returns-then-not-zeros_from : goal.returns-then-not-zeros_from
+returns-then-not-zeros_from c = search (not_clear, rules)
+
+pub entries_sound-requires : goal.entries_sound-requires
+entries_sound-requires c =
+    let counted = c.records_in-n.ensures in
+    let work = c.args.work in
+    (search rules, the_pass_sees _ (search rules) work _ (search rules) _ counted.0 counted.1 _ _ c.if-not-work-rows.false (search rules) (search rules), search rules)
+
+pub returns : goal.returns
+returns c = search (the_entries_decide, rules)

@@ -1,0 +1,8 @@
+-- `leaf_give::give_ticket` meets its contract.
+-- Assumes nothing.
+use Rattle.std.proofs.Common.{rules}
+use native.Mathlib.Omega.{arith}
+use Rattle.leaf_give.proofs.give_ticket.Goals as goal
+
+pub overflow_add-result : goal.overflow_add-result
+overflow_add-result c = omega (arith, c.requires.0.few)

@@ -1,0 +1,15 @@
+-- `leaf_move::lower_rows` meets its contract. The invariant: the first i are moved.
+-- Assumes nothing.
+use Rattle.std.proofs.Common.{rules}
+use Prim.Native.Nat.{◌-◌}
+use Rattle.leaf_move.proofs.Forward.{Lowering, none_is_lowered, one_more_is_lowered, all_are_lowered}
+use Rattle.leaf_move.proofs.lower_rows.Goals as goal
+
+pub loop-i-init : goal.loop-i-init
+loop-i-init c = search (none_is_lowered, rules)
+
+pub loop-i-preserved : goal.loop-i-preserved
+loop-i-preserved c = search (one_more_is_lowered, rules)
+
+pub returns : goal.returns
+returns c = search (all_are_lowered, rules)

@@ -1,0 +1,18 @@
+-- `leaf_node::place_from` meets its contract: lo and hi bracket the place.
+-- Assumes nothing.
+use Rattle.std.proofs.Common.{rules}
+use Prim.Native.Nat.{◌-◌}
+use Rattle.leaf_node.proofs.Searches.{Bracket, bracket_start, bracket_up, bracket_down, bracket_end}
+use Rattle.leaf_node.proofs.place_from.Goals as goal
+
+pub loop-lo-init : goal.loop-lo-init
+loop-lo-init c = search (bracket_start, rules)
+
+pub loop-lo-preserved-then-less : goal.loop-lo-preserved-then-less
+loop-lo-preserved-then-less c = search (bracket_up, rules)
+
+pub loop-lo-preserved : goal.loop-lo-preserved
+loop-lo-preserved c = search (bracket_down, rules)
+
+pub returns : goal.returns
+returns c = (search (bracket_end, rules), search rules)

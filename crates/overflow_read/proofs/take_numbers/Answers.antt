@@ -1,0 +1,19 @@
+use Rattle.std.proofs.Common.{rules}
+use Rattle.overflow_read.proofs.Joining.{Taken, no_number_is_taken, all_numbers_are_taken, one_more_number_is_taken}
+use Prim.Native.Nat.{◌-◌}
+use Rattle.overflow_read.proofs.take_numbers.Reads as reads
+use Rattle.overflow_read.proofs.take_numbers.Lts as lts
+use Rattle.overflow.proofs.number_in.Reads as number-in-reads
+use Rattle.overflow_read.proofs.take_numbers.Goals as goal
+
+-- src/lib.rt:155:5
+pub loop-j-init : goal.loop-j-init
+loop-j-init c = search (no_number_is_taken, rules)
+
+-- src/lib.rt:155:5
+pub loop-j-preserved : goal.loop-j-preserved
+loop-j-preserved c = search (one_more_number_is_taken, rules)
+
+-- src/lib.rt:150:1
+pub returns : goal.returns
+returns c = search (all_numbers_are_taken, rules)
