@@ -30,7 +30,7 @@ BelowCutoff c r = below_cutoff c r.key ≡ true
 pub leaves_have_the_cut_records : (s : List ℕ) (c : Option (List ℕ)) (m : Bool) (ls : List (List Record)) (left : List Record)
     → records_of (with_separators s c m ls left) ≡ joined ls
 leaves_have_the_cut_records s c m [] left = refl
-leaves_have_the_cut_records s c m (l ∷ ls) left = ap (λ r. l ++ r) (leaves_have_the_cut_records _ c m ls left)
+leaves_have_the_cut_records s c m (l ∷ ls) left = ap (λ r. l ++ r) (leaves_have_the_cut_records (next_separator s l (joined ls ++ left)) c m ls left)
 
 pub records_append : (xs ys : List Leaf) → records_of (xs ++ ys) ≡ records_of xs ++ records_of ys
 records_append [] ys = refl

@@ -18,7 +18,7 @@ use Rattle.leaf_node.specs.Fits.{All, nil, cons, Proper}
 use Rattle.leaf_node.proofs.RoundTrips.{records_of_a_good_page_are_proper}
 use Rattle.leaf_model.specs.Basics.{joined, nonempty}
 use Rattle.leaf_model.specs.Cut.{Cut}
-use Rattle.leaf_model.specs.Work.{Change, zero_key, below_cutoff, inserted, plan, with_separators}
+use Rattle.leaf_model.specs.Work.{next_separator, Change, zero_key, below_cutoff, inserted, plan, with_separators}
 use Rattle.leaf_model.specs.Tally.{strike, place, changed}
 use Rattle.leaf_model.proofs.Tests.{none_is_not_some}
 use Rattle.leaf_model.proofs.Lists.{all_append, all_right_lem, body_append}
@@ -105,7 +105,7 @@ module _ (size entries bytes : ℕ) (q : PageSize size) (even : body_limit size 
 
   pub count_leaves : (s : List ℕ) (c : Option (List ℕ)) (m : Bool) (ls : List (List Record)) (left : List Record) → length (map (made size) (with_separators s c m ls left)) ≡ length ls
   count_leaves s c m [] left = refl
-  count_leaves s c m (l ∷ ls) left = ap suc (count_leaves _ c m ls left)
+  count_leaves s c m (l ∷ ls) left = ap suc (count_leaves (next_separator s l (joined ls ++ left)) c m ls left)
 
   -- ---- one leaf
 

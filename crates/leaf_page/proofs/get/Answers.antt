@@ -6,4 +6,4 @@ use Rattle.leaf_page.specs.Reply.{get_out}
 use Rattle.leaf_page.proofs.get.Goals as goal
 
 pub returns : goal.returns
-returns c = c.get_out.ensures ∙ ap get_out c.get.ensures.0
+returns c = c.get_out.ensures ∙ ap get_out c.get.ensures.value

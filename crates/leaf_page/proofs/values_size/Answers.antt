@@ -6,4 +6,4 @@ use Rattle.leaf_page.specs.Reply.{size_out}
 use Rattle.leaf_page.proofs.values_size.Goals as goal
 
 pub returns : goal.returns
-returns c = c.size_out.ensures ∙ ap size_out c.values_size.ensures.0
+returns c = c.size_out.ensures ∙ ap size_out c.values_size.ensures.value

@@ -3,6 +3,7 @@
 use Rattle.std.proofs.Common.{rules}
 use Rattle.std.proofs.Common.{◌*◌, ◌%◌, ◌^◌, Bool, not, T, sym, ◌∙◌, subst, le_trans, arith, le-ltb, le-leb}
 use native.Mathlib.Nat.{mod-le}
+use Rattle.std.proofs.lemmas.Bool.{lt-leb}
 use lib.Ieee.{binary64}
 use lib.Ieee.Bits.{nan_bits_above}
 use Rattle.melt_weight.specs.Weight.{factor_of}
