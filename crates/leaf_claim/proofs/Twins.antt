@@ -29,7 +29,7 @@ unfolding twin_on
 twin_on_lem v xs i e = rw e
 
 -- inserts lie in the store: the page isn't read
-inserts_held : (store p a b : List ℕ) (at : ℕ) {low : ℕ} {os : List Op} → All (Within low) os → low ≤ 0
+inserts_held : (store p a b : List ℕ) {low : ℕ} (at : ℕ) {os : List Op} → All (Within low) os → low ≤ 0
     → map (held store a) (places_of p (entries_of p at os)) ≡ map (held store b) (places_of p (entries_of p at os))
 unfolding entry_places held
 inserts_held store p a b at nil l = refl

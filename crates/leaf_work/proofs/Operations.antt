@@ -122,7 +122,7 @@ no_chunks p q nil l = refl
 no_chunks p q (cons {x = Put r} h hs) l = ap {B = List Record} (λ z. r ∷ z) (no_chunks p q hs l)
 no_chunks p q (cons {x = Keep from to} h hs) l = absurd (omega (arith, h.0, h.1))
 
-pub no_chunk_entries : (p q : List ℕ) (at : ℕ) {low : ℕ} {os : List Op} → All (Within low) os → low ≤ 0 → entries_of p at os ≡ entries_of q at os
+pub no_chunk_entries : (p q : List ℕ) {low : ℕ} (at : ℕ) {os : List Op} → All (Within low) os → low ≤ 0 → entries_of p at os ≡ entries_of q at os
 no_chunk_entries p q at nil l = refl
 no_chunk_entries p q at (cons {x = Put r} {xs = os} h hs) l = ap {B = List Entry} (λ z. op_entry p at (Put r) ∷ z) (no_chunk_entries p q (at + length r.value) hs l)
 no_chunk_entries p q at (cons {x = Keep from to} h hs) l = absurd (omega (arith, h.0, h.1))
@@ -189,7 +189,7 @@ some_insert_lem p at [] h = h
 some_insert_lem p at (Put r ∷ os) h = refl
 some_insert_lem p at (Keep from to ∷ os) h = some_insert_lem p (at + 0) os h
 
-pub all_inserts : (p : List ℕ) (at : ℕ) {low : ℕ} {os : List Op} → All (Within low) os → low ≤ 0 → All (λ e. an_insert e ≡ true) (entries_of p at os)
+pub all_inserts : (p : List ℕ) {low : ℕ} (at : ℕ) {os : List Op} → All (Within low) os → low ≤ 0 → All (λ e. an_insert e ≡ true) (entries_of p at os)
 all_inserts p at nil l = nil
 all_inserts p at (cons {x = Put r} h hs) l = cons refl (all_inserts p (at + length r.value) hs l)
 all_inserts p at (cons {x = Keep from to} h hs) l = absurd (omega (arith, h.0, h.1))
