@@ -146,13 +146,13 @@ pub all_changed_rise : (es : List Edit) {xs : List Record} → Rising xs → Ris
 all_changed_rise [] h = h
 all_changed_rise (e ∷ es) h = all_changed_rise es (changed_rises e.key e.change h)
 
-pub all_changed_low : {es : List Edit} (xs ys : List Record) → All (λ e. All (λ x. Lt x.key e.key) xs) es → changed_all es (xs ++ ys) ≡ xs ++ changed_all es ys
+pub all_changed_low : (xs : List Record) {es : List Edit} (ys : List Record) → All (λ e. All (λ x. Lt x.key e.key) xs) es → changed_all es (xs ++ ys) ≡ xs ++ changed_all es ys
 all_changed_low xs ys nil = refl
 all_changed_low xs ys (cons {x = e} {xs = es} p a) = ap (changed_all es) (changed_low e.key e.change ys p) ∙ all_changed_low xs (changed e.key e.change ys) a
 
-pub all_changed_before : {es : List Edit} (xs ys : List Record) → All (λ e. All (λ y. Lt e.key y.key) ys) es → changed_all es (xs ++ ys) ≡ changed_all es xs ++ ys
-all_changed_before xs ys nil = refl
-all_changed_before xs ys (cons {x = e} {xs = es} p a) = ap (changed_all es) (changed_before e.key e.change xs p) ∙ all_changed_before (changed e.key e.change xs) ys a
+pub all_changed_before : (ys : List Record) {es : List Edit} (xs : List Record) → All (λ e. All (λ y. Lt e.key y.key) ys) es → changed_all es (xs ++ ys) ≡ changed_all es xs ++ ys
+all_changed_before ys xs nil = refl
+all_changed_before ys xs (cons {x = e} {xs = es} p a) = ap (changed_all es) (changed_before e.key e.change xs p) ∙ all_changed_before ys (changed e.key e.change xs) a
 
 -- ---- the changes of a leaf, and those behind it
 

@@ -92,7 +92,7 @@ module _ (size entries bytes : ℕ) (q : PageSize size) where
       ap (λ (v : List Edit). changed_all v (T ++ records_of_row (x ∷ xs))) (sym (both c es))
       ∙ changed_in_turn mine rest (T ++ records_of_row (x ∷ xs))
       ∙ ap (λ (v : List Record). changed_all rest (changed_all mine v)) (sym (append_assoc T (records x.page) (records_of_row xs)))
-      ∙ ap (changed_all rest) (all_changed_before (T ++ records x.page) (records_of_row xs) (behind_leaf x xs es h)) in
+      ∙ ap (changed_all rest) (all_changed_before (records_of_row xs) (T ++ records x.page) (behind_leaf x xs es h)) in
       rw (go_on, same) (turns_hold old h os t' (changed_all mine (T ++ records x.page)) rest w' (later xs (some x.separator) es d) (ends xs es) (accepted_before size entries bytes q t' xs rest n') n')
 
   -- ---- the whole row

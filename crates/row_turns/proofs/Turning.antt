@@ -19,7 +19,7 @@ use Rattle.leaf_node.specs.Fits.{All, nil, cons, Keyed, Proper, Rising}
 use Rattle.leaf_node.proofs.RoundTrips.{a_built_page_has_its_records, a_built_page_is_good, records_of_a_good_page_are_proper}
 use Rattle.leaf_model.specs.Basics.{joined, nonempty}
 use Rattle.leaf_model.specs.Cut.{Cut}
-use Rattle.leaf_model.specs.Work.{Change, below_cutoff, plan, leaves_by, with_separators, separator_after}
+use Rattle.leaf_model.specs.Work.{next_separator, Change, below_cutoff, plan, leaves_by, with_separators, separator_after}
 use Rattle.leaf_model.specs.Claim.{Lt, Le}
 use Rattle.leaf_model.proofs.Tests.{clash, none_is_not_some}
 use Rattle.leaf_model.proofs.Lists.{all_append, all_left, all_right_lem, all_map, joined_append}
@@ -98,7 +98,7 @@ module _ (size entries bytes : ℕ) (q : PageSize size) where
   records_made : (s : List ℕ) (c : Option (List ℕ)) (m : Bool) {ls : List (List Record)} (left : List Record) → All (λ l. records (build size l) ≡ l) ls
       → records_of_row (map (made size) (with_separators s c m ls left)) ≡ joined ls
   records_made s c m left nil = refl
-  records_made s c m left (cons {x = l} {xs = ls} p a) = rw p (ap (λ r. l ++ r) (records_made _ c m left a))
+  records_made s c m left (cons {x = l} {xs = ls} p a) = rw p (ap (λ r. l ++ r) (records_made (next_separator s l (joined ls ++ left)) c m left a))
 
   -- they are good pages
   made_good : (s : List ℕ) (c : Option (List ℕ)) (m : Bool) {ls : List (List Record)} (left : List Record) → Sized size c left ls → All Keyed (joined ls ++ left) → All (Fitting size) (joined ls ++ left)
@@ -108,7 +108,7 @@ module _ (size entries bytes : ℕ) (q : PageSize size) where
       let k' = rw (append_assoc l (joined ls) left) at k in
       let f' = rw (append_assoc l (joined ls) left) at f in
       let u' = rw (append_assoc l (joined ls) left) at u in
-      cons (leaf_good l z.fits (all_left l _ k') (all_left l _ f') (rising_left l _ u')) (made_good _ c m left h (all_right_lem l (joined ls ++ left) k') (all_right_lem l (joined ls ++ left) f') (rising_right l (joined ls ++ left) u'))
+      cons (leaf_good l z.fits (all_left l _ k') (all_left l _ f') (rising_left l _ u')) (made_good (next_separator s l (joined ls ++ left)) c m left h (all_right_lem l (joined ls ++ left) k') (all_right_lem l (joined ls ++ left) f') (rising_right l (joined ls ++ left) u'))
   made_good s c m left (sized_last {l = l} e z) k f u =
       let k' = rw (append_assoc l [] []) at k in
       let f' = rw (append_assoc l [] []) at f in
@@ -119,7 +119,7 @@ module _ (size entries bytes : ℕ) (q : PageSize size) where
   made_whole : (old : List (List ℕ)) (s : List ℕ) {c : Option (List ℕ)} (m : Bool) {ls : List (List Record)} (left : List Record) → Sized size c left ls → (b : List ℕ) → c ≡ some b
       → All (λ l. records (build size l) ≡ l) ls → All (OldOrMade size old) (pages_of (map (made size) (with_separators s c m ls left)))
   made_whole old s m left sized[] b e back = nil
-  made_whole old s m left (sized∷ {l = l} z h) b e (cons r back) = cons {x = build size l} (is_made (rw r z.enough) (rw r z.fits)) (made_whole old _ m left h b e back)
+  made_whole old s m left (sized∷ {l = l} {ls = ls} z h) b e (cons r back) = cons {x = build size l} (is_made (rw r z.enough) (rw r z.fits)) (made_whole old (next_separator s l (joined ls ++ left)) m left h b e back)
   made_whole old s m left (sized_last e' z) b e back = none_is_not_some e
 
   made_bodies : (old : List (List ℕ)) (s : List ℕ) (c : Option (List ℕ)) (m : Bool) {ls : List (List Record)} (left : List Record) {ps : List (List ℕ)} → All (OldOrMade size old) ps → Sized size c left ls
@@ -127,7 +127,7 @@ module _ (size entries bytes : ℕ) (q : PageSize size) where
   made_bodies old s c m left {ps} a sized[] back = rw (append-nil ps) (every_page a)
   made_bodies old s c m left {ps} a (sized∷ {l = l} {ls = ls} z h) (cons r back) =
       let here : All (OldOrMade size old) (ps ++ (build size l ∷ [])) = all_append a (cons (is_made (rw r z.enough) (rw r z.fits)) nil) in
-      rw (← append_assoc ps (build size l ∷ []) _) (made_bodies old _ c m left here h back)
+      rw (← append_assoc ps (build size l ∷ []) _) (made_bodies old (next_separator s l (joined ls ++ left)) c m left here h back)
   made_bodies old s c m left a (sized_last {l = l} e z) (cons r back) = but_the_last (build size l) a (rw r z)
 
   -- ---- a refusal in the middle

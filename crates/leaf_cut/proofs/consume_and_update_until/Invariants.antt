@@ -9,4 +9,4 @@ abbrev pub invariant-loop-at : goal.invariant-loop-at
 invariant-loop-at l = Walked l.limit l.target l.rows l.page l.span l.initial.at l.at l.leaf
 
 abbrev pub decreases-loop-at : goal.decreases-loop-at
-decreases-loop-at l = l.span.used - l.at.initial
+decreases-loop-at l = l.span.used - l.at.entry

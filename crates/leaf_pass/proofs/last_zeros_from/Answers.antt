@@ -1,6 +1,6 @@
 -- `leaf_pass::last_zeros_from` meets its contract. The invariant: the rest from `i` on decides.
 -- Assumes nothing.
-use Rattle.std.proofs.Common.{rules}
+use Rattle.std.proofs.Common.{rules, ne_eqb, eq-eqb}
 use mathlib.Core.Path.{◌≡◌, refl}
 use Prim.Native.Nat.{◌-◌}
 use lib.ListN.{length, get_or, drop}
