@@ -47,8 +47,8 @@ lent_itself s = go (reads_page s.told)
 
 op_entries_keyed : (p : List ℕ) (at : ℕ) (os : List Op) → All Keyed (records_of_ops p os) → All EntryKeyed (entries_of p at os)
 op_entries_keyed p at [] a = nil
-op_entries_keyed p at (Put r ∷ os) (cons k a) = cons k (op_entries_keyed p _ os a)
-op_entries_keyed p at (Keep from to ∷ os) a = cons refl (op_entries_keyed p _ os (all_right_lem (records_between p from to) (records_of_ops p os) a))
+op_entries_keyed p at (Put r ∷ os) (cons k a) = cons k (op_entries_keyed p (at + length r.value) os a)
+op_entries_keyed p at (Keep from to ∷ os) a = cons refl (op_entries_keyed p (at + 0) os (all_right_lem (records_between p from to) (records_of_ops p os) a))
 
 blanks_keyed : (n : ℕ) → All EntryKeyed (replicate n blank)
 blanks_keyed zero = nil

@@ -20,7 +20,7 @@ pub entries_sound-requires : goal.entries_sound-requires
 entries_sound-requires c =
     let counted = c.records_in-n.ensures in
     let work = c.args.work in
-    (search rules, the_pass_sees _ (search rules) work _ (search rules) _ counted.0 counted.1 _ _ c.if-not-work-rows.false (search rules) (search rules), search rules)
+    (search rules, the_pass_sees _ (search rules) work _ (search rules) _ counted.0 counted.1 _ _ c.if-not-work-rows.false-raw (search rules) (search rules), search rules)
 
 pub returns : goal.returns
 returns c = search (the_entries_decide, rules)
