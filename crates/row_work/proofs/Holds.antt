@@ -2,8 +2,8 @@
 use mathlib.Core.Path.{◌≡◌, refl, subst}
 use mathlib.Core.Bool.{Bool, true, false, cond}
 use mathlib.Core.List.{List, [], ◌∷◌, ◌++◌}
-use Prim.Native.Nat.{ℕ, zero, suc}
-use lib.ListN.{replicate}
+use Prim.Native.Nat.{◌+◌, ℕ, zero, suc}
+use lib.ListN.{length, replicate}
 use Rattle.leaf_node.specs.Limits.{PageSize}
 use Rattle.leaf_node.specs.Page.{records_between}
 use Rattle.leaf_node.specs.Fits.{All, nil, cons, Keyed}

@@ -1,6 +1,7 @@
 -- `leaf_passed::is_sound_at` meets its contract.
 -- Assumes nothing.
 use Rattle.std.proofs.Common.{rules}
+use Rattle.std.proofs.lemmas.Bool.{not-false}
 use Rattle.leaf_passed.proofs.Steps.{a_stopped_pass_is_unsound, what_is_not_inside_is_unsound, the_filled_part_is_inside, unclear_bytes_are_unsound, a_wrong_entry_is_unsound, what_is_right_is_sound}
 use Rattle.leaf_check.proofs.Sounds.{same_low}
 use Rattle.leaf_passed.proofs.is_sound_at.Goals as goal

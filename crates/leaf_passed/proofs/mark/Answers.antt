@@ -9,4 +9,4 @@ returns-then-not-at-unused c = search (nothing_more_is_wrong, rules)
 
 pub returns : goal.returns
 returns c =
-    something_more_is_wrong c.args.at c.args.unused.all c.if-not-at-unused.false _ c.wrong_pass.ensures
+    something_more_is_wrong c.args.at c.args.unused.all c.if-not-at-unused.false-raw _ c.wrong_pass.ensures
