@@ -66,3 +66,7 @@ module _ {A : Type 0} {P : A → Type 0} where
 
   pub finding_all : (l : List A) (i : ℕ) → length l ≤ i → All P (take i l) → All P l
   finding_all l i h a = subst (All P) (take_all i l h) a
+
+-- what stands for an entry behind the list's end, which is never read
+abbrev pub unread : Entry
+unread = record { kind = 0; flag = 0; from = 0; to = 0; sum = 0; key = [] }
