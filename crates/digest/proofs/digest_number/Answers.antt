@@ -16,6 +16,6 @@ turn_verdict-requires c =
     (a_page_has_4096_bytes, a_passed_work_is_judged args.work args.page.now args.at args.entries c.requires args.store.now _ c.lent_at-lent.ensures)
 
 pub returns : goal.returns
-returns c =
+returns c list l k =
     let args = c.args in
     c.turn_verdict.ensures list args.store.now (the_number_is_the_tables args.work args.page.now args.at args.entries args.store.now _ c.lent_at-lent.ensures list l k)

@@ -21,5 +21,5 @@ lift_record-requires c = search (its_value_has_room, rules)
 pub returns : goal.returns
 returns c =
     let args = c.args in
-    let cell = c.Cell-at.ensures in
+    let cell = c.cell_at-cell.ensures in
     a_base_record_is_lifted args.page.now args.i c.requires.0 _ cell.1 cell.3 cell.4 _ c.base_key-key.ensures args.store.now args.top _ _ c.lift_record.ensures.0 c.lift_record.ensures.1

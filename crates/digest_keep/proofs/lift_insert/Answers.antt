@@ -10,4 +10,4 @@ lower-next-requires c =
 
 pub returns : goal.returns
 returns c =
-    an_insert_is_lifted c.args.store.now c.args.entry c.args.top c.requires.0 c.requires.1 _ c.lower-next.ensures _ _ c.Listed-Below.ensures c.move_up.ensures
+    an_insert_is_lifted c.args.store.now c.args.entry c.args.top c.requires.0 c.requires.1 _ c.lower-next.ensures _ _ c.listed_below.ensures c.move_up.ensures

@@ -5,12 +5,12 @@ use Rattle.leaf_digest.proofs.Numbers.{what_is_lent_comes_first, only_an_open_wo
 use Rattle.leaf_digest.proofs.turn_verdict.Goals as goal
 
 pub returns-then-lent-ne0 : goal.returns-then-lent-ne0
-returns-then-lent-ne0 c =
+returns-then-lent-ne0 c list store e =
     let args = c.args in
     what_is_lent_comes_first args.size args.work list store args.page.now args.area.now args.tickets.now _ e c.if-lent-ne0.true
 
 pub returns-then-work-ne1 : goal.returns-then-work-ne1
-returns-then-work-ne1 c =
+returns-then-work-ne1 c list store e =
     let args = c.args in
     only_an_open_work_is_digested args.size args.work list store args.page.now args.area.now args.tickets.now _ e (search rules) (search rules)
 
@@ -25,11 +25,11 @@ has_area-requires c =
     )
 
 pub returns-then-not-has_area : goal.returns-then-not-has_area
-returns-then-not-has_area c =
+returns-then-not-has_area c list store e =
     let args = c.args in
     a_short_area_has_number_17 args.size args.work list store args.page.now args.area.now args.tickets.now _ e (search rules) _ c.regard.ensures (search rules) _ c.has_area.ensures (search rules)
 
 pub returns : goal.returns
-returns c =
+returns c list store e =
     let args = c.args in
     an_area_with_room_passes args.size args.work list store args.page.now args.area.now args.tickets.now _ e (search rules) _ c.regard.ensures (search rules) _ c.has_area.ensures (search rules)

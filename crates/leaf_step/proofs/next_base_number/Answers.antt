@@ -13,12 +13,12 @@ closed_at-closed-requires c =
 
 pub returns-then-closed-ne0 : goal.returns-then-closed-ne0
 returns-then-closed-ne0 c =
-    λ list any l k. a_closed_refusal_refuses_the_next_base _ _ _ _ _ c.Closed-at.ensures list any l k _ _ _ _ c.base_verdict-base.ensures c.if-base-ne0.false c.if-closed-ne0.true
+    λ list any l k. a_closed_refusal_refuses_the_next_base _ _ _ _ _ c.closed_at-closed.ensures list any l k _ _ _ _ c.base_verdict-base.ensures c.if-base-ne0.false c.if-closed-ne0.true
 
 pub follows_verdict-requires : goal.follows_verdict-requires
 follows_verdict-requires c =
-    what_follows_is_required _ _ _ c.requires _ _ _ _ _ c.base_verdict-base.ensures c.if-base-ne0.false _ c.Closed-at.ensures c.if-closed-ne0.false
+    what_follows_is_required _ _ _ c.requires _ _ _ _ _ c.base_verdict-base.ensures c.if-base-ne0.false _ c.closed_at-closed.ensures c.if-closed-ne0.false
 
 pub returns : goal.returns
 returns c =
-    λ list any l k. what_follows_decides _ _ _ _ _ c.Closed-at.ensures list any l k _ _ _ _ c.base_verdict-base.ensures c.if-base-ne0.false c.if-closed-ne0.false _ c.follows_verdict.ensures
+    λ list any l k. what_follows_decides _ _ _ _ _ c.closed_at-closed.ensures list any l k _ _ _ _ c.base_verdict-base.ensures c.if-base-ne0.false c.if-closed-ne0.false _ c.follows_verdict.ensures

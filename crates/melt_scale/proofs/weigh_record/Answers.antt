@@ -10,12 +10,12 @@ cell_at-cell-requires c = search (a_record_can_be_read, rules)
 
 pub returns-then-cell : goal.returns-then-cell
 returns-then-cell c =
-    let cell = c.Cell-at in
+    let cell = c.cell_at-cell in
     a_flagged_record_is_skipped c.args.page.now c.args.i c.args.tree.now c.args.at c.requires.2 cell.result.flag cell.ensures.4 c.if-cell.true
 
 pub returns-then-not-names : goal.returns-then-not-names
 returns-then-not-names c =
-    let cell = c.Cell-at in
+    let cell = c.cell_at-cell in
     let key = c.key_at in
     let named = c.names in
     another_tree_is_skipped c.args.page.now c.args.i c.args.tree.now c.args.at c.requires.2 cell.result.flag cell.ensures.4 c.if-cell.false key.result.now key.ensures.0 named.result named.ensures c.if-not-names.true
@@ -28,7 +28,7 @@ slice_bounds-read-end c = search (a_value_lies_in_its_page, rules)
 
 pub returns : goal.returns
 returns c =
-    let cell = c.Cell-at in
+    let cell = c.cell_at-cell in
     let key = c.key_at in
     let named = c.names in
     the_trees_record_is_weighed c.args.page.now c.args.i c.args.tree.now c.args.at c.requires.2 cell.result.flag cell.ensures.4 c.if-cell.false key.result.now key.ensures.0 named.result named.ensures c.if-not-names.false
