@@ -7,7 +7,6 @@ use native.Mathlib.Omega.{arith}
 use lib.ListN.{length, get_or, length-map}
 use Rattle.leaf_node.specs.Page.{length_at, run}
 use Rattle.leaf_work.specs.declared.Entry.{Entry}
-use Rattle.leaf_work.specs.Lent.{blank}
 use Rattle.leaf_work.specs.Flat.{row_of, rows_of}
 use Rattle.leaf_cut.specs.declared.Span.{Span}
 use Rattle.leaf_cut.specs.declared.Cursor.{Cursor}
@@ -16,6 +15,7 @@ use Rattle.leaf_cut.specs.declared.Taken.{Taken}
 use Rattle.leaf_cut.specs.Sizes.{cut_sizes, piece_of, piece_sizes, piece_count, passed_by}
 use Rattle.leaf_cut.specs.Steps.{Rest, Leaf, Spread, CursorIn, RowAt, Walked, Leafed}
 use Rattle.leaf_cut.proofs.Walking.{a_walk_starts, the_entry_has_a_piece, the_leaf_ends_in_the_entry, all_taken, the_leaf_goes_on, the_rest_is_reached, the_leaf_ends_in_the_rest}
+use Rattle.leaf_entries.proofs.Folded.{unread}
 use Rattle.leaf_entries.proofs.Rows.{the_row_of_an_entry}
 use Rattle.digest_leaf.specs.Consuming.{gauge_of, begun_at, until_cut, taken_behind, taken_rest, RestAsked}
 
@@ -126,17 +126,17 @@ module _ (limit target : ℕ) (list : List Entry) (page : List ℕ) (s : Span) (
         inside : t.at.entry < s.used
         inside = omega (arith, k.here still, k.within)
 
-        own_row : get_or (rows_of list) t.at.entry [] ≡ row_of (get_or list i blank)
+        own_row : get_or (rows_of list) t.at.entry [] ≡ row_of (get_or list i unread)
         own_row = ap (λ (j : ℕ). get_or (rows_of list) j []) (k.here still) ∙ the_row_of_an_entry list i an_entry_is_in_the_list
 
-        pub a_turn_asks : (RowAt page s.n (row_of (get_or list i blank)) t.at) × (Leaf limit target (gauge_of t.end))
+        pub a_turn_asks : (RowAt page s.n (row_of (get_or list i unread)) t.at) × (Leaf limit target (gauge_of t.end))
         a_turn_asks = (
           subst (λ (z : List ℕ). RowAt page s.n z t.at) own_row (the_entry_has_a_piece limit target (rows_of list) page s sp start t.at (gauge_of t.end) (k.walked still) inside),
           (k.walked still).room,
         )
 
-        module _ (r : Taken) (q : r.end ≡ cut_sizes limit target t.end.count t.end.bytes (piece_sizes page (piece_of (row_of (get_or list i blank)) t.at.skip)))
-            (p : r.at ≡ passed_by t.at (piece_count (piece_of (row_of (get_or list i blank)) t.at.skip)) (r.end.count - t.end.count)) where
+        module _ (r : Taken) (q : r.end ≡ cut_sizes limit target t.end.count t.end.bytes (piece_sizes page (piece_of (row_of (get_or list i unread)) t.at.skip)))
+            (p : r.at ≡ passed_by t.at (piece_count (piece_of (row_of (get_or list i unread)) t.at.skip)) (r.end.count - t.end.count)) where
           own_end : r.end ≡ cut_sizes limit target t.end.count t.end.bytes (piece_sizes page (piece_of (get_or (rows_of list) t.at.entry []) t.at.skip))
           own_end = it_ends_by_its_row limit target page t _ _ (sym own_row) r q
 

@@ -12,7 +12,6 @@ use Rattle.leaf_node.specs.Record.{Record, total}
 use Rattle.leaf_node.specs.Page.{records_between}
 use Rattle.leaf_node.specs.Build.{pushed}
 use Rattle.leaf_work.specs.declared.Entry.{Entry}
-use Rattle.leaf_work.specs.Lent.{blank}
 use Rattle.leaf_work.specs.Flat.{row_of, rows_of, keys_of}
 use Rattle.leaf_cut.specs.declared.Span.{Span}
 use Rattle.leaf_cut.specs.declared.Cursor.{Cursor}
@@ -23,6 +22,7 @@ use Rattle.leaf_write.specs.declared.Pushed.{Pushed}
 use Rattle.leaf_write.specs.Filling.{part_from, EntryThere, RangeIn, PartThere, Filling}
 use Rattle.leaf_write.proofs.Pages.{the_rest_has_room}
 use Rattle.leaf_write.proofs.Leaves.{Filled, pushed_none, an_empty_page_is_filled, a_filled_page_has_all, the_part_can_be_read, the_part_has_room, a_part_is_pushed}
+use Rattle.leaf_entries.proofs.Folded.{unread}
 use Rattle.leaf_entries.proofs.Rows.{the_row_of_an_entry, the_key_of_an_entry}
 use Rattle.digest_leaf.specs.declared.Place.{Place}
 use Rattle.digest_leaf.specs.Pushing.{records_on, place_at, placed_by, wanted, until_full, PushRestAsked, RecordsAsked}
@@ -129,20 +129,20 @@ module _ (list : List Entry) (store page : List ℕ) (s : Span) (start : Cursor)
         inside : i < s.used
         inside = omega (arith, k.within)
 
-        own_row : get_or (rows_of list) i [] ≡ row_of (get_or list i blank)
+        own_row : get_or (rows_of list) i [] ≡ row_of (get_or list i unread)
         own_row = the_row_of_an_entry list i an_entry_is_in_the_list
 
-        own_key : get_or (keys_of list) i [] ≡ (get_or list i blank).key
+        own_key : get_or (keys_of list) i [] ≡ (get_or list i unread).key
         own_key = the_key_of_an_entry list i an_entry_is_in_the_list
 
-        part_is : part_from s (rows_of list) (keys_of list) store page at ≡ entry_records store page (row_of (get_or list i blank)) (get_or list i blank).key p.skip
+        part_is : part_from s (rows_of list) (keys_of list) store page at ≡ entry_records store page (row_of (get_or list i unread)) (get_or list i unread).key p.skip
         unfolding part_from
         part_is = rw (lt-ltb i s.used inside, own_row, own_key)
 
         abbrev rs : List Record
-        rs = wanted store page n p (get_or list i blank)
+        rs = wanted store page n p (get_or list i unread)
 
-        pub a_turn_asks : (EntryThere store page (row_of (get_or list i blank)) p.skip) × (p.j < n) × (Filling (length d) p.j p.at (wanted store page n p (get_or list i blank)))
+        pub a_turn_asks : (EntryThere store page (row_of (get_or list i unread)) p.skip) × (p.j < n) × (Filling (length d) p.j p.at (wanted store page n p (get_or list i unread)))
         a_turn_asks = (
           subst (λ (z : List ℕ). EntryThere store page z p.skip) own_row ((read_there still).entry inside),
           still,
@@ -154,7 +154,7 @@ module _ (list : List Entry) (store page : List ℕ) (s : Span) (start : Cursor)
             let x : Pushed = record { count = length rs; at = p.at + total rs } in
             a_part_is_pushed (rows_of list) (keys_of list) store page s n d₀ first start d at p.j p.at k.filled h still x (rw part_is) (pushed d p.j p.at rs) (rw part_is) (rw part_is)
 
-        next : Upon (placed_by p (wanted store page n p (get_or list i blank))) (pushed d p.j p.at (wanted store page n p (get_or list i blank))) (until_full (placed_by p (wanted store page n p (get_or list i blank))) n end) (i + 1)
+        next : Upon (placed_by p (wanted store page n p (get_or list i unread))) (pushed d p.j p.at (wanted store page n p (get_or list i unread))) (until_full (placed_by p (wanted store page n p (get_or list i unread))) n end) (i + 1)
         unfolding placed_by
         next = record {
           upto = omega (arith, k.within);
@@ -164,7 +164,7 @@ module _ (list : List Entry) (store page : List ℕ) (s : Span) (start : Cursor)
           filled = next_filled;
         }
 
-        pub upon_next : (r : Place) (z : List ℕ) (end' : ℕ) → r ≡ placed_by p (wanted store page n p (get_or list i blank)) → z ≡ pushed d p.j p.at (wanted store page n p (get_or list i blank))
+        pub upon_next : (r : Place) (z : List ℕ) (end' : ℕ) → r ≡ placed_by p (wanted store page n p (get_or list i unread)) → z ≡ pushed d p.j p.at (wanted store page n p (get_or list i unread))
             → end' ≡ until_full r n end → Upon r z end' (i + 1)
         upon_next r z end' q e m = rw (m, q, e) next
 
