@@ -2,7 +2,7 @@
 use mathlib.Core.Path.{◌≡◌, refl, sym, ap, subst, ◌∙◌}
 use mathlib.Core.Bool.{Bool}
 use mathlib.Core.Option.{Option}
-use mathlib.Core.List.{List, []}
+use mathlib.Core.List.{List, [], ◌++◌}
 use Prim.Native.Nat.{ℕ, ◌+◌, ◌-◌, ◌*◌, ◌^◌, ◌≤◌, ◌<◌}
 use native.Mathlib.Omega.{arith}
 use native.Mathlib.Decide.{dec_lt}
@@ -20,7 +20,6 @@ use Rattle.leaf_cut.specs.declared.Gauge.{Gauge}
 use Rattle.leaf_cut.specs.declared.Cursor.{Cursor}
 use Rattle.leaf_cut.specs.declared.Span.{Span}
 use Rattle.leaf_write.specs.Filling.{key_from}
-use Rattle.leaf_entries.proofs.Parts.{put_part}
 use Rattle.leaf_entries.proofs.Rows.{the_row_of_an_entry, the_key_of_an_entry}
 use Rattle.leaf_give.specs.declared.Progress.{Progress}
 use Rattle.leaf_give.specs.Steps.{more_than, progress_of, TicketAsked, TicketGiven, LeafThere, LeafGiven}
@@ -39,6 +38,10 @@ its_ticket_is_given more last cut own cutoff first key tickets place separator n
     (subst (λ (z : List ℕ). TicketGiven more (separate_leaves last z zero_key) (key_if cut cutoff) tickets place separator next separator' tickets') f g)
 
 -- ---- page, entry and ticket
+
+-- a list with zs in the place of the k elements from index a on
+abbrev pub put_part : ℕ → ℕ → List ℕ → List ℕ → List ℕ
+put_part a k ys zs = take a ys ++ (zs ++ drop k (drop a ys))
 
 module _ (size : ℕ) (list : List Entry) (store page : List ℕ) (s : Span) (p : Progress) (leaf : Gauge) (at : Cursor) (area tickets : List ℕ)
     (h : LeafThere size (rows_of list) (keys_of list) store page s p leaf at (length area) (length tickets)) where
@@ -61,10 +64,10 @@ module _ (size : ℕ) (list : List Entry) (store page : List ℕ) (s : Span) (p 
     in_list l = omega (arith, h.kept.used_in, length-map list row_of)
 
     own_row : at.entry < s.used → get_or (rows_of list) at.entry [] ≡ row_of entry
-    own_row l = the_row_of_an_entry list at.entry (in_list l) ∙ ap row_of (sym ee)
+    own_row l = the_row_of_an_entry blank list at.entry (in_list l) ∙ ap row_of (sym ee)
 
     own_key : at.entry < s.used → get_or (keys_of list) at.entry [] ≡ entry.key
-    own_key l = the_key_of_an_entry list at.entry (in_list l) ∙ ap (λ (e : Entry). e.key) (sym ee)
+    own_key l = the_key_of_an_entry blank list at.entry (in_list l) ∙ ap (λ (e : Entry). e.key) (sym ee)
 
     the_key_is : key_from s (rows_of list) (keys_of list) page at ≡ first_key s entry page at
     unfolding key_from first_key

@@ -127,7 +127,7 @@ module _ (limit target : ℕ) (list : List Entry) (page : List ℕ) (s : Span) (
         inside = omega (arith, k.here still, k.within)
 
         own_row : get_or (rows_of list) t.at.entry [] ≡ row_of (get_or list i unread)
-        own_row = ap (λ (j : ℕ). get_or (rows_of list) j []) (k.here still) ∙ the_row_of_an_entry list i an_entry_is_in_the_list
+        own_row = ap (λ (j : ℕ). get_or (rows_of list) j []) (k.here still) ∙ the_row_of_an_entry unread list i an_entry_is_in_the_list
 
         pub a_turn_asks : (RowAt page s.n (row_of (get_or list i unread)) t.at) × (Leaf limit target (gauge_of t.end))
         a_turn_asks = (

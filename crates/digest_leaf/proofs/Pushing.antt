@@ -130,10 +130,10 @@ module _ (list : List Entry) (store page : List ℕ) (s : Span) (start : Cursor)
         inside = omega (arith, k.within)
 
         own_row : get_or (rows_of list) i [] ≡ row_of (get_or list i unread)
-        own_row = the_row_of_an_entry list i an_entry_is_in_the_list
+        own_row = the_row_of_an_entry unread list i an_entry_is_in_the_list
 
         own_key : get_or (keys_of list) i [] ≡ (get_or list i unread).key
-        own_key = the_key_of_an_entry list i an_entry_is_in_the_list
+        own_key = the_key_of_an_entry unread list i an_entry_is_in_the_list
 
         part_is : part_from s (rows_of list) (keys_of list) store page at ≡ entry_records store page (row_of (get_or list i unread)) (get_or list i unread).key p.skip
         unfolding part_from
