@@ -10,10 +10,10 @@ put_insert-requires c = (search (an_insert_has_a_row, rules), search rules)
 pub returns-in-Delete : goal.returns-in-Delete
 returns-in-Delete c =
     let args = c.args in
-    a_deletion_lists_nothing args.rows.now args.keys.now args.at args.from args.key.now args.change args.value.now c.enum_told-1.given.1
+    a_deletion_lists_nothing args.rows.now args.keys.now args.at args.from args.key.now args.change args.value.now c.in-Delete.is
 
 pub returns-in-Put : goal.returns-in-Put
 returns-in-Put c =
     let args = c.args in
-    an_insert_is_listed args.rows.now args.keys.now args.at args.from args.key.now args.change args.value.now _ c.change-1.given.1 c.requires.0 c.requires.1
+    an_insert_is_listed args.rows.now args.keys.now args.at args.from args.key.now args.change args.value.now _ c.in-Put.is c.requires.0 c.requires.1
     _ _ c.put_insert.ensures.0 c.put_insert.ensures.1
