@@ -11,13 +11,13 @@ pub overflow_add-result-in-Sprue : goal.overflow_add-result-in-Sprue
 overflow_add-result-in-Sprue c = record { fits = search (a_sprue_fits, rules) }
 
 pub returns-in-Piece : goal.returns-in-Piece
-returns-in-Piece c = a_piece_is_weighed c.args.at c.args.weight c.requires.0 c.requires.1 c.weight-1.given.0.0 (search rules)
+returns-in-Piece c = a_piece_is_weighed c.args.at c.args.weight c.requires.0 c.requires.1 c.in-Piece.n c.in-Piece.is
 
 pub returns-in-Sprue : goal.returns-in-Sprue
-returns-in-Sprue c = a_sprue_is_weighed c.args.at c.args.weight c.requires.0 c.requires.1 c.weight-in-Sprue-1.given.0.0 (search rules)
+returns-in-Sprue c = a_sprue_is_weighed c.args.at c.args.weight c.requires.0 c.requires.1 c.in-Sprue.n c.in-Sprue.is
 
 pub returns-in-Factor : goal.returns-in-Factor
-returns-in-Factor c = a_factor_is_weighed c.args.at c.args.weight c.requires.0 c.requires.1 c.weight-in-Factor-1.given.0.0 (search rules)
+returns-in-Factor c = a_factor_is_weighed c.args.at c.args.weight c.requires.0 c.requires.1 c.in-Factor.x c.in-Factor.is
 
 pub returns-in-Unknown : goal.returns-in-Unknown
 returns-in-Unknown c = an_unknown_weight_is_remembered c.args.at c.args.weight c.requires.0 c.requires.1 (search rules)
