@@ -11,7 +11,7 @@ use lib.ListN.{length, get_or, take, drop, length-append, length-map, length-dro
 use lib.Seq.{length-take-le, take-nil, take_at, drop_at, drop-drop}
 use borrow.Author.Tests.{eqb-true, eqb-false, ltb-true, ltb-false, leb-true, leb-false, lt-ltb, le-ltb, le-leb, lt-leb}
 use Rattle.leaf_node.specs.Record.{Record, cost, body, total}
-use Rattle.leaf_node.specs.Page.{count, start, length_at, record_at, run, records_between}
+use Rattle.leaf_node.specs.Page.{count, length_at, record_at, run, records_between}
 use Rattle.leaf_node.specs.Steps.{Laid}
 use Rattle.leaf_node.proofs.Lengths.{body_is_pointers_and_values}
 use Rattle.leaf_node.proofs.Laying.{value_length_lem}

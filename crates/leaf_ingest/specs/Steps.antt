@@ -1,6 +1,6 @@
 -- What the functions below the call require and do, as plain facts. `page` is the page as the work regards it.
 -- `proofs/Ingests.antt` has what they require of all that earns no refusal.
-use Rattle.std.specs.Prelude.{◌≡◌, Bool, true, false, List, ◌++◌, map, ℕ, ◌+◌, ◌-◌, ◌≤◌, ◌<◌, eqb, leb, length, take, drop}
+use Rattle.std.specs.Prelude.{◌≡◌, Bool, true, false, List, map, ℕ, ◌+◌, ◌-◌, ◌≤◌, ◌<◌, eqb, leb, length}
 use Rattle.std.proofs.Math.Option.{Option}
 use Rattle.refusal.specs.Refusal.{accepted, out_of_turn, long_value, key_too_low, key_past_cutoff, list_full, store_full}
 use Rattle.leaf_node.specs.Limits.{most_page_bytes, PageSize, value_limit}

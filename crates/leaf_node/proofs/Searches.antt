@@ -14,7 +14,6 @@ use lib.Seq.{get_or-take, get_or-drop}
 use borrow.Author.Tests.{lt-ltb, le-ltb, eq-eqb, ne_eqb, ltb-true, ltb-false, eqb-true}
 use Rattle.bit_ops.specs.Key.{Bytes, Key, num, lt_key, eq_key}
 use Rattle.bit_ops.proofs.Order.{equal_numbers_are_equal_keys}
-use Rattle.leaf_node.specs.declared.Place.{Place}
 use Rattle.leaf_node.specs.declared.Place.TheVariants.{Found, Absent}
 use Rattle.leaf_node.specs.Limits.{PageSize}
 use Rattle.leaf_node.specs.Page.{count, pointer, key_at}

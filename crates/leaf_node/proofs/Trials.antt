@@ -4,7 +4,7 @@ use mathlib.Core.Bool.{Bool, true, false}
 use mathlib.Core.List.{List, [], ◌∷◌}
 use Prim.Native.Nat.{ℕ}
 use lib.ListN.{take, drop, replicate}
-use Rattle.leaf_node.specs.Record.{Record, values, total}
+use Rattle.leaf_node.specs.Record.{values, total}
 use Rattle.leaf_node.specs.Build.{le16, tagged, pointers, build}
 
 -- a page of one record with an empty value

@@ -7,7 +7,7 @@ use lib.Dec.{eqb, leb, ltb}
 use lib.ListN.{length, get_or, replicate}
 use native.Mathlib.Omega.{arith}
 use borrow.Author.Tests.{eq-eqb, ne_eqb, eqb-true, eqb-false, ltb-true, leb-true, lt-ltb, le-ltb, not-true, not-false}
-use Rattle.leaf_node.specs.Page.{pointer, count, key_at, values_size}
+use Rattle.leaf_node.specs.Page.{pointer, key_at, values_size}
 use Rattle.leaf_node.specs.Build.{put}
 use Rattle.leaf_node.proofs.Copying.{put_all}
 use Rattle.leaf_node.proofs.Laying.{start_inside, values_size_is_a_difference}

@@ -21,7 +21,7 @@ use Rattle.leaf_work.proofs.Operations.{records_of_ops}
 use Rattle.leaf_work.proofs.BasePages.{lent_page_is_good}
 use Rattle.leaf_work.proofs.Laid.{an_ignored_page_has_no_records, rest_is}
 use Rattle.leaf_work.proofs.Decoding.{Shape, insert, keep, op_of, ops_of}
-use Rattle.leaf_work.proofs.Readiness.{c, es, ops, base_right, shapes, listed_are, laid}
+use Rattle.leaf_work.proofs.Readiness.{c, ops, base_right, shapes, listed_are, laid}
 
 -- an entry whose key has 32 bytes
 abbrev pub EntryKeyed : Entry → Type 0

@@ -1,6 +1,5 @@
 -- Document 01, "Digest, step by step": the reply, and every lent byte after the call. A refused digest leaves all as it was, and its reply is its number.
 use Rattle.std.specs.Prelude.{true, false, cond, List, [], ◌∷◌, ◌++◌, map, ℕ, ◌+◌, ◌-◌, eqb, length, drop, replicate}
-use Rattle.std.proofs.Math.Option.{Option}
 use Rattle.refusal.specs.Refusal.{accepted}
 use Rattle.bit_ops.specs.Steps.{zeros}
 use Rattle.leaf_node.specs.Record.{Record, values, total}

@@ -1,5 +1,5 @@
 -- Document 01, "A work and its turns" and "Room and soundness": the calls but digest, the reply, and every lent byte after the call. A refused call leaves all as it was, and its reply is its number.
-use Rattle.std.specs.Prelude.{Bool, true, false, cond, List, [], ◌∷◌, ◌++◌, ℕ, zero, suc, ◌+◌, ◌-◌, eqb, length, take, drop, replicate}
+use Rattle.std.specs.Prelude.{Bool, true, false, cond, List, [], ◌∷◌, ◌++◌, ℕ, zero, suc, ◌+◌, eqb, length, take, drop, replicate}
 use Rattle.std.proofs.Math.Option.{Option}
 use Rattle.refusal.specs.Refusal.{accepted, no_such_index}
 use Rattle.bit_ops.specs.Steps.{zeros}

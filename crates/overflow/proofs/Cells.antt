@@ -1,24 +1,23 @@
 -- Cells: what `encode_cell` writes and `decode_cell` answers. Assumes nothing.
-use mathlib.Core.Path.{◌≡◌, refl, sym, ap, ◌∙◌}
+use mathlib.Core.Path.{◌≡◌, refl, sym, ◌∙◌}
 use mathlib.Core.Bool.{Bool, true, false, not, ◌&&◌}
-use mathlib.Core.List.{List, [], ◌∷◌, ◌++◌, append_assoc}
+use mathlib.Core.List.{List, ◌++◌, append_assoc}
 use Prim.Native.Nat.{ℕ, zero, suc, ◌+◌, ◌-◌, ◌*◌, ◌≤◌, ◌<◌, min}
 use native.Mathlib.Nat.{zero-add, sub-zero}
 use native.Mathlib.Omega.{arith}
 use lib.Dec.{eqb}
-use lib.ListN.{length, take, drop, length-append, length-take}
+use lib.ListN.{length, drop, length-append, length-take}
 use lib.Seq.{take_all}
 use borrow.Author.Tests.{eqb-true, eq-eqb, ne_eqb, not-true, not-false}
 use Rattle.bit_ops.specs.Steps.{zeros}
 use Rattle.leaf_node.specs.Build.{put}
 use Rattle.leaf_node.proofs.Rules.{both, true_is_not_false}
-use Rattle.leaf_node.proofs.Lengths.{length_zeros}
 use Rattle.leaf_builder.proofs.Putting.{put_put}
 use Rattle.overflow.specs.Count.{most_value, cell_numbers, size_right, page_count, in_cell}
 use Rattle.overflow.specs.Written.{low_bytes, numbers_out, cell_of}
 use Rattle.overflow.specs.Read.{cell_size, cell_count, cell_right}
 use Rattle.overflow.specs.Outcome.{padded}
-use Rattle.overflow.specs.Steps.{RightCell, CellRead}
+use Rattle.overflow.specs.Steps.{CellRead}
 use Rattle.overflow.proofs.Counts.{right_sizes, a_value_has_a_page, the_count_is_at_most_257}
 use Rattle.overflow.proofs.Numbers.{length_low, numbers_long}
 

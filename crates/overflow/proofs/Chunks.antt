@@ -1,17 +1,16 @@
 -- Pages as they are written: their length, and the first page of what is left, by its two counts. Assumes nothing.
-use mathlib.Core.Path.{◌≡◌, refl, sym, ap, ◌∙◌}
+use mathlib.Core.Path.{◌≡◌, refl}
 use mathlib.Core.Bool.{Bool, true, false}
-use mathlib.Core.List.{List, [], ◌∷◌, ◌++◌, append_assoc}
-use Prim.Native.Nat.{ℕ, zero, suc, ◌+◌, ◌-◌, ◌*◌, ◌≤◌, ◌<◌, min}
+use mathlib.Core.List.{List, [], ◌∷◌}
+use Prim.Native.Nat.{ℕ, suc, ◌+◌, ◌-◌, ◌*◌, ◌≤◌, min}
 use native.Mathlib.Omega.{arith}
 use lib.Dec.{leb}
 use lib.ListN.{length, take, drop, length-append, length-take, drop_of_length-le}
 use lib.Seq.{take_all, take-length, drop-length}
 use borrow.Author.Tests.{leb-true, leb-false}
-use Rattle.bit_ops.specs.Steps.{zeros}
 use Rattle.leaf_node.proofs.Lengths.{length_zeros}
 use Rattle.overflow.specs.Count.{body_bytes, most_numbers}
-use Rattle.overflow.specs.Written.{low_bytes, numbers_out, page_of, pages_of}
+use Rattle.overflow.specs.Written.{page_of, pages_of}
 use Rattle.overflow.specs.Read.{numbers_here, bytes_here}
 use Rattle.overflow.proofs.Numbers.{length_low, numbers_long}
 

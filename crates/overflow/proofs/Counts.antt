@@ -1,10 +1,10 @@
 -- The page count: the smallest that holds a value and its numbers, and what is known of it within the limit. Assumes nothing.
 use mathlib.Core.Path.{◌≡◌, refl}
 use mathlib.Core.Bool.{Bool, true, false, not, cond, ◌&&◌}
-use Prim.Native.Nat.{ℕ, ◌+◌, ◌-◌, ◌*◌, ◌/◌, ◌≤◌, ◌<◌, min}
+use Prim.Native.Nat.{ℕ, ◌+◌, ◌-◌, ◌*◌, ◌/◌, ◌≤◌, ◌<◌}
 use native.Mathlib.Omega.{arith}
 use lib.Dec.{leb, ltb}
-use borrow.Author.Tests.{ltb-true, ltb-false, lt-ltb, leb-true, leb-false, le-leb, lt-leb, not-true, not-false}
+use borrow.Author.Tests.{ltb-true, lt-ltb, leb-true, leb-false, le-leb, lt-leb, not-true, not-false}
 use Rattle.leaf_node.proofs.Rules.{both}
 use Rattle.refusal.specs.Refusal.{overflow_length}
 use Rattle.overflow.specs.Count.{most_numbers, body_bytes, cell_numbers, most_value, size_right, Holds, page_count}

@@ -8,7 +8,7 @@ use Rattle.bit_ops.specs.Steps.{zeros}
 use Rattle.leaf_node.specs.Page.{word}
 use Rattle.leaf_node.specs.Build.{put}
 use Rattle.overflow.specs.Count.{size_right, page_count}
-use Rattle.overflow.specs.Written.{low_bytes, numbers_out, cell_of, page_of, pages_of}
+use Rattle.overflow.specs.Written.{low_bytes, numbers_out, cell_of, page_of}
 use Rattle.overflow.specs.Read.{low_number, numbers_read, cell_size, cell_numbers_read, cell_right, all_zero, page_right, pages_in, pages_right, joined_value, freed_numbers}
 use Rattle.overflow.specs.Verdict.{split_verdict, all_right, read_verdict}
 use Rattle.overflow.specs.Outcome.{join_of, free_of}

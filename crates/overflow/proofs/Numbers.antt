@@ -6,13 +6,12 @@ use native.Mathlib.Nat.{add_assoc, add-zero, sub-zero}
 use native.Mathlib.Omega.{arith}
 use native.Mathlib.Numerals.{add-one}
 use lib.ListN.{length, get_or, take, drop, set, length-append, length-drop}
-use lib.Seq.{set_split, drop-cons, drop-drop, get_or-drop, drop-nil}
+use lib.Seq.{set_split, drop-cons, get_or-drop}
 use Rattle.leaf_node.specs.Page.{word}
 use Rattle.leaf_node.specs.Build.{put}
-use Rattle.leaf_node.specs.Fits.{All, nil, cons}
 use Rattle.leaf_builder.proofs.Putting.{put_none, put_put, length_put}
 use Rattle.overflow.specs.Written.{low_bytes, numbers_out}
-use Rattle.overflow.specs.Read.{low_number, numbers_read, cell_size}
+use Rattle.overflow.specs.Read.{low_number, cell_size}
 
 -- ---- an element, then the others
 

@@ -1,17 +1,16 @@
 -- Pages as they are read: what the check of a page and of all pages tells. Assumes nothing.
 use mathlib.Core.Path.{◌≡◌, refl, sym, ap, ◌∙◌}
-use mathlib.Core.Bool.{Bool, true, false, ◌&&◌}
+use mathlib.Core.Bool.{true, ◌&&◌}
 use mathlib.Core.List.{List, [], ◌∷◌, ◌++◌, append-nil}
-use Prim.Native.Nat.{ℕ, zero, suc, ◌+◌, ◌-◌, ◌*◌, ◌≤◌, ◌<◌, min}
+use Prim.Native.Nat.{ℕ, zero, suc, ◌+◌, ◌-◌, ◌*◌, ◌≤◌}
 use native.Mathlib.Omega.{arith}
 use lib.Dec.{eqb}
-use lib.ListN.{length, take, drop, length-take, length-drop}
-use lib.Seq.{take-take, drop-drop, length-take-le}
+use lib.ListN.{length, take, drop}
+use lib.Seq.{take-take}
 use borrow.Author.Tests.{eqb-true}
-use Rattle.leaf_node.specs.Page.{word}
 use Rattle.leaf_node.proofs.Rules.{both}
 use Rattle.leaf_builder.proofs.Putting.{take_drop}
-use Rattle.overflow.specs.Count.{page_size, body_bytes, most_numbers}
+use Rattle.overflow.specs.Count.{page_size, most_numbers}
 use Rattle.overflow.specs.Read.{low_number, numbers_read, numbers_in, bytes_in, page_numbers, page_bytes, all_zero, numbers_here, bytes_here, page_right, pages_in, pages_right, joined_value, freed_numbers}
 
 -- ---- clauses, for proofs that keep the definitions shut

@@ -1,15 +1,15 @@
 -- Nos. 21 to 23: what each stands for, and what an accepted call is lent. Assumes nothing.
-use mathlib.Core.Path.{◌≡◌, refl, sym, ◌∙◌}
+use mathlib.Core.Path.{◌≡◌, refl}
 use mathlib.Core.Bool.{Bool, true, false, not, cond, ◌&&◌}
 use mathlib.Core.List.{List}
-use Prim.Native.Nat.{ℕ, ◌+◌, ◌-◌, ◌*◌, ◌≤◌, ◌<◌}
+use Prim.Native.Nat.{ℕ, ◌*◌, ◌≤◌}
 use native.Mathlib.Omega.{arith}
 use lib.Dec.{leb}
 use lib.ListN.{length}
-use borrow.Author.Tests.{leb-true, leb-false, le-leb, lt-leb, not-true, not-false}
+use borrow.Author.Tests.{leb-true, le-leb, not-true, not-false}
 use Rattle.leaf_node.proofs.Rules.{both}
-use Rattle.overflow.specs.Count.{cell_numbers, size_right, page_count}
-use Rattle.overflow.specs.Read.{cell_size, cell_count, cell_right, pages_in, pages_right}
+use Rattle.overflow.specs.Count.{size_right, page_count}
+use Rattle.overflow.specs.Read.{cell_count, cell_right}
 use Rattle.overflow.specs.Verdict.{split_verdict, all_right, read_verdict}
 use Rattle.overflow.proofs.Counts.{Sized, right_sizes, sizes_are_right}
 

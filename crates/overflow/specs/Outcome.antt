@@ -1,5 +1,5 @@
 -- Document 02, M-105: the calls whole, what each answers and every lent byte after it. A refused call changes no byte; "later bytes of both buffers keep what they held" (01).
-use Rattle.std.specs.Prelude.{cond, List, [], ◌++◌, ℕ, ◌-◌, eqb, length, take}
+use Rattle.std.specs.Prelude.{cond, List, ◌++◌, ℕ, ◌-◌, eqb, length, take}
 use Rattle.refusal.specs.Refusal.{accepted}
 use Rattle.bit_ops.specs.Steps.{zeros}
 use Rattle.leaf_node.specs.Build.{put}

@@ -1,7 +1,7 @@
 -- Document 02, M-105: a cell and its pages, read; "all low byte first".
 use Rattle.std.specs.Prelude.{Bool, true, ◌&&◌, List, [], ◌∷◌, ◌++◌, ℕ, zero, suc, ◌+◌, ◌-◌, ◌*◌, min, eqb, length, take, drop}
 use Rattle.leaf_node.specs.Page.{word}
-use Rattle.overflow.specs.Count.{page_size, body_bytes, most_numbers, cell_numbers, size_right, page_count, in_cell}
+use Rattle.overflow.specs.Count.{page_size, body_bytes, most_numbers, size_right, page_count, in_cell}
 
 unfoldable pub low_number : List ℕ → ℕ
 low_number [] = 0

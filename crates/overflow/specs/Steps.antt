@@ -1,6 +1,6 @@
 -- What the functions below the calls require and find.
 use Rattle.std.specs.Prelude.{◌≡◌, Bool, true, List, ℕ, ◌+◌, ◌*◌, ◌≤◌, ◌<◌, length}
-use Rattle.overflow.specs.Count.{most_value, page_count, in_cell}
+use Rattle.overflow.specs.Count.{most_value, in_cell}
 use Rattle.overflow.specs.Read.{cell_size, cell_count, cell_right}
 
 -- a cell that a splitting writes, in numbers: its size and its page count

@@ -1,25 +1,24 @@
 -- Numbers and pages written and read back, and read and written again. Assumes nothing.
 use mathlib.Core.Path.{◌≡◌, refl, sym, ap, ◌∙◌}
-use mathlib.Core.Bool.{Bool, true, false, ◌&&◌}
-use mathlib.Core.List.{List, [], ◌∷◌, ◌++◌, append_assoc, append-nil}
-use Prim.Native.Nat.{ℕ, zero, suc, ◌+◌, ◌-◌, ◌*◌, ◌/◌, ◌%◌, ◌^◌, ◌≤◌, ◌<◌, min}
+use mathlib.Core.Bool.{true}
+use mathlib.Core.List.{List, [], ◌∷◌, ◌++◌, append_assoc}
+use Prim.Native.Nat.{ℕ, zero, suc, ◌+◌, ◌-◌, ◌*◌, ◌/◌, ◌%◌, ◌^◌, ◌≤◌, ◌<◌}
 use native.Mathlib.Omega.{arith}
 use native.Mathlib.Nat.{pow-suc}
 use lib.Dec.{eqb}
-use lib.ListN.{length, get_or, take, drop, replicate, length-append, length-take, length-drop, take-append-drop}
-use lib.Seq.{length-take-le, take-append_seam, drop-append_seam, take_at, drop_at, drop-drop, take_all, get_or-drop, get_or-take}
+use lib.ListN.{length, take, drop, length-take, length-drop, take-append-drop}
+use lib.Seq.{length-take-le, take-append_seam, drop-append_seam, take_at, drop_at, drop-drop, get_or-drop}
 use borrow.Author.Tests.{eqb-true, eq-eqb}
 use Rattle.bit_ops.specs.Key.{Bytes}
 use Rattle.bit_ops.specs.Steps.{zeros}
 use Rattle.leaf_node.specs.Page.{word}
 use Rattle.leaf_node.specs.Fits.{All, nil, cons}
 use Rattle.leaf_node.proofs.Rules.{both}
-use Rattle.leaf_node.proofs.Lengths.{length_zeros}
 use Rattle.overflow.specs.Count.{body_bytes}
 use Rattle.overflow.specs.Written.{low_bytes, numbers_out, page_of}
 use Rattle.overflow.specs.Read.{low_number, numbers_read, numbers_in, bytes_in, page_numbers, page_bytes, all_zero, page_right}
-use Rattle.overflow.proofs.Numbers.{length_low, numbers_long, next_number}
-use Rattle.overflow.proofs.Reading.{next_number_read, no_number_read, length_numbers_read, numbers_of_their_bytes, RightPage}
+use Rattle.overflow.proofs.Numbers.{length_low, numbers_long}
+use Rattle.overflow.proofs.Reading.{length_numbers_read, numbers_of_their_bytes, RightPage}
 use Rattle.overflow_claim.specs.Written.{Number}
 
 -- ---- a number: written, then read

@@ -1,14 +1,14 @@
 -- M-105's sentences about the calls: "Splitting then joining gives the value, and freeing gives those t back, each place once, in the order of `chunk`'s pages", and 23 exactly of "a cell
 -- (before 22), or a cell with its pages, that no splitting writes". Assumes nothing.
-use mathlib.Core.Path.{◌≡◌, refl, sym, ap, ◌∙◌}
+use mathlib.Core.Path.{◌≡◌, refl, sym, ◌∙◌}
 use mathlib.Core.Logic.{◌↔◌}
-use mathlib.Core.Bool.{Bool, true, false, cond, ◌&&◌}
-use mathlib.Core.List.{List, [], ◌∷◌, ◌++◌, append_assoc, append-nil}
-use Prim.Native.Nat.{ℕ, zero, suc, ◌+◌, ◌-◌, ◌*◌, ◌≤◌, ◌<◌, min}
+use mathlib.Core.Bool.{Bool, true, false, cond}
+use mathlib.Core.List.{List, [], ◌++◌, append-nil}
+use Prim.Native.Nat.{ℕ, zero, suc, ◌-◌, ◌*◌, ◌≤◌}
 use native.Mathlib.Nat.{zero-add}
 use native.Mathlib.Omega.{arith}
 use lib.Dec.{leb, eqb}
-use lib.ListN.{length, take, drop, length-append, length-take, length-drop, take-append-drop, drop_of_length-le}
+use lib.ListN.{length, take, drop, length-append, length-drop, take-append-drop, drop_of_length-le}
 use lib.Seq.{length-take-le, take_at, drop_at, take_all, take-append_seam, drop-drop}
 use borrow.Author.Tests.{leb-true, leb-false, le-leb, eqb-true}
 use Rattle.bit_ops.specs.Key.{Bytes}
@@ -16,22 +16,22 @@ use Rattle.leaf_node.specs.Build.{put}
 use Rattle.bit_ops.specs.Steps.{zeros}
 use Rattle.leaf_node.specs.Fits.{All, nil, cons}
 use Rattle.leaf_node.proofs.Lengths.{length_zeros}
-use Rattle.leaf_node.proofs.Rules.{true_is_not_false, fails}
+use Rattle.leaf_node.proofs.Rules.{fails}
 use Rattle.leaf_model.specs.Basics.{joined}
 use Rattle.leaf_model.proofs.Lists.{all_append}
-use Rattle.overflow.specs.Count.{cell_numbers, most_value, page_count, in_cell}
+use Rattle.overflow.specs.Count.{cell_numbers, page_count, in_cell}
 use Rattle.overflow.specs.Written.{low_bytes, numbers_out, cell_of, pages_of, split_pages}
-use Rattle.overflow.specs.Read.{low_number, numbers_read, cell_size, cell_count, cell_numbers_read, cell_right, pages_in, pages_right, joined_value, freed_numbers}
-use Rattle.overflow.specs.Verdict.{split_verdict, all_right, read_verdict}
-use Rattle.overflow.specs.Outcome.{padded, Split, split_number, split_cell, split_of, Join, join_of, Free, free_of}
-use Rattle.overflow.proofs.Counts.{Sized, the_count_holds}
+use Rattle.overflow.specs.Read.{low_number, numbers_read, cell_size, cell_count, cell_numbers_read, cell_right, pages_in, joined_value, freed_numbers}
+use Rattle.overflow.specs.Verdict.{all_right, read_verdict}
+use Rattle.overflow.specs.Outcome.{padded, Split, split_number, split_cell, split_of, join_of, free_of}
+use Rattle.overflow.proofs.Counts.{the_count_holds}
 use Rattle.overflow.proofs.Cells.{Right, right_cells}
-use Rattle.overflow.proofs.Verdicts.{Lent, accepted_splittings, Readable, accepted_readings, readings_that_are_right}
+use Rattle.overflow.proofs.Verdicts.{Lent, accepted_splittings, Readable, readings_that_are_right}
 use Rattle.overflow.proofs.Reading.{length_numbers_read}
 use Rattle.overflow_claim.specs.Written.{Number, Splits, WritesCell, Writes}
 use Rattle.overflow_claim.proofs.Bytes.{low_again, numbers_again, numbers_are_small, bytes_taken, bytes_dropped}
 use Rattle.overflow_claim.proofs.RoundTrips.{none_long, written_pages_are_long, pages_joined_are_the_front, Again, right_pages_are_written_again}
-use Rattle.overflow_claim.proofs.Splits.{a_written_cell_is_right, a_written_cell_says_the_size, readable, join_of_lem, free_of_lem}
+use Rattle.overflow_claim.proofs.Splits.{a_written_cell_is_right, readable, join_of_lem, free_of_lem}
 
 -- ---- what the calls answer and leave
 

@@ -1,19 +1,19 @@
 -- Pages written and read back, and right pages read and written again. Assumes nothing.
-use mathlib.Core.Path.{◌≡◌, refl, sym, ap, ◌∙◌}
-use mathlib.Core.Bool.{Bool, true, false, ◌&&◌}
-use mathlib.Core.List.{List, [], ◌∷◌, ◌++◌, append_assoc, append-nil}
-use Prim.Native.Nat.{ℕ, zero, suc, ◌+◌, ◌-◌, ◌*◌, ◌≤◌, ◌<◌, min}
+use mathlib.Core.Path.{◌≡◌, refl, sym, ◌∙◌}
+use mathlib.Core.Bool.{true}
+use mathlib.Core.List.{List, [], ◌∷◌, ◌++◌, append_assoc}
+use Prim.Native.Nat.{ℕ, zero, suc, ◌+◌, ◌-◌, ◌*◌, ◌≤◌, min}
 use native.Mathlib.Omega.{arith}
-use lib.ListN.{length, take, drop, length-append, length-take, length-drop, take-append-drop}
-use lib.Seq.{length-take-le, take_at, drop_at, take-add, take-take, drop-drop}
+use lib.ListN.{length, take, drop, length-append, length-drop, take-append-drop}
+use lib.Seq.{length-take-le, take_at, drop_at, take-add, take-take}
 use Rattle.bit_ops.specs.Key.{Bytes}
 use Rattle.leaf_node.specs.Fits.{All, nil, cons}
 use Rattle.leaf_model.specs.Basics.{joined}
 use Rattle.leaf_model.proofs.Lists.{all_append}
 use Rattle.leaf_builder.proofs.Putting.{take_drop}
-use Rattle.overflow.specs.Count.{body_bytes, most_numbers}
+use Rattle.overflow.specs.Count.{body_bytes}
 use Rattle.overflow.specs.Written.{page_of, pages_of}
-use Rattle.overflow.specs.Read.{numbers_in, bytes_in, page_numbers, page_bytes, numbers_here, bytes_here, page_right, pages_in, pages_right, joined_value, freed_numbers}
+use Rattle.overflow.specs.Read.{numbers_in, page_numbers, page_bytes, numbers_here, bytes_here, page_right, pages_in, pages_right, joined_value, freed_numbers}
 use Rattle.overflow.proofs.Chunks.{length_page, a_page_by_its_counts, no_page}
 use Rattle.overflow.proofs.Reading.{next_page_in, no_page_in, next_page_right, no_page_right, next_joined, none_joined, next_freed, none_freed, RightPages, right_pages_in_turn}
 use Rattle.overflow_claim.specs.Written.{Number}

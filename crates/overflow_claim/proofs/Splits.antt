@@ -1,35 +1,27 @@
 -- What a splitting answers and leaves, joined and freed; and what no splitting writes. Assumes nothing.
-use mathlib.Core.Path.{◌≡◌, refl, sym, ap, ◌∙◌}
-use mathlib.Core.Logic.{◌↔◌}
-use mathlib.Core.Bool.{Bool, true, false, cond, ◌&&◌}
-use mathlib.Core.List.{List, [], ◌∷◌, ◌++◌, append_assoc, append-nil}
-use Prim.Native.Nat.{ℕ, zero, suc, ◌+◌, ◌-◌, ◌*◌, ◌^◌, ◌≤◌, ◌<◌, min}
-use native.Mathlib.Nat.{zero-add}
+use mathlib.Core.Path.{◌≡◌, refl, sym, ◌∙◌}
+use mathlib.Core.Bool.{true}
+use mathlib.Core.List.{List, [], ◌++◌, append_assoc, append-nil}
+use Prim.Native.Nat.{ℕ, ◌+◌, ◌-◌, ◌*◌, ◌^◌, ◌≤◌, ◌<◌}
 use native.Mathlib.Omega.{arith}
-use lib.Dec.{leb, eqb}
-use lib.ListN.{length, take, drop, length-append, length-take, length-drop, take-append-drop, drop_of_length-le}
-use lib.Seq.{length-take-le, take_at, drop_at, take_all, take-take, take-append_seam, drop-drop}
-use borrow.Author.Tests.{leb-true, leb-false, le-leb, eqb-true, eqb-false, eq-eqb}
-use Rattle.bit_ops.specs.Key.{Bytes}
+use lib.Dec.{leb}
+use lib.ListN.{length, take, drop, length-append, length-take, length-drop, take-append-drop}
+use lib.Seq.{length-take-le, take_at, drop_at}
+use borrow.Author.Tests.{le-leb, eq-eqb}
 use Rattle.leaf_node.specs.Build.{put}
-use Rattle.leaf_node.specs.Fits.{All}
-use Rattle.leaf_node.proofs.Rules.{true_is_not_false}
 use Rattle.leaf_model.specs.Basics.{joined}
-use Rattle.leaf_model.proofs.Lists.{all_append}
-use Rattle.leaf_builder.proofs.Putting.{take_drop}
-use Rattle.overflow.specs.Count.{cell_numbers, most_value, page_count, in_cell, Holds}
+use Rattle.overflow.specs.Count.{cell_numbers, page_count, in_cell}
 use Rattle.overflow.specs.Written.{low_bytes, numbers_out, cell_of, pages_of, split_pages}
-use Rattle.overflow.specs.Read.{low_number, numbers_read, cell_size, cell_count, cell_numbers_read, cell_right, pages_in, pages_right, joined_value, freed_numbers}
-use Rattle.overflow.specs.Verdict.{split_verdict, all_right, read_verdict}
-use Rattle.overflow.specs.Outcome.{padded, Split, split_number, split_cell, split_of, Join, join_of, Free, free_of}
-use Rattle.overflow.proofs.Counts.{Sized, sizes_are_right, the_count_holds, a_value_has_a_page}
-use Rattle.overflow.proofs.Numbers.{length_low, numbers_long}
-use Rattle.overflow.proofs.Cells.{length_cell, Right, right_cells}
-use Rattle.overflow.proofs.Verdicts.{Lent, accepted_splittings, Readable, accepted_readings, readings_that_are_right}
-use Rattle.overflow.proofs.Reading.{length_numbers_read}
-use Rattle.overflow_claim.specs.Written.{Number, Splits, WritesCell, Writes}
-use Rattle.overflow_claim.proofs.Bytes.{low_back, low_again, numbers_back, numbers_again, numbers_are_small, bytes_taken, bytes_dropped}
-use Rattle.overflow_claim.proofs.RoundTrips.{all_taken, all_dropped, none_long, written_pages_are_read, written_pages_are_long, written_pages_are_right, joining_gives_the_value, freeing_gives_the_numbers, pages_of_a_front, pages_joined_are_the_front, Again, right_pages_are_written_again}
+use Rattle.overflow.specs.Read.{cell_size, cell_count, cell_numbers_read, cell_right, pages_in, joined_value, freed_numbers}
+use Rattle.overflow.specs.Verdict.{all_right}
+use Rattle.overflow.specs.Outcome.{join_of, free_of}
+use Rattle.overflow.proofs.Counts.{Sized, sizes_are_right, the_count_holds}
+use Rattle.overflow.proofs.Numbers.{length_low}
+use Rattle.overflow.proofs.Cells.{length_cell}
+use Rattle.overflow.proofs.Verdicts.{Readable, readings_that_are_right}
+use Rattle.overflow_claim.specs.Written.{Splits}
+use Rattle.overflow_claim.proofs.Bytes.{low_back, numbers_back}
+use Rattle.overflow_claim.proofs.RoundTrips.{all_taken, all_dropped, written_pages_are_read, written_pages_are_long, written_pages_are_right, joining_gives_the_value, freeing_gives_the_numbers, pages_of_a_front}
 
 -- ---- the cell that a splitting writes
 

@@ -1,8 +1,8 @@
 -- The check of the pages: bytes, a page, all pages, and the number of a reading. Assumes nothing.
-use mathlib.Core.Path.{◌≡◌, refl, sym, ap, ◌∙◌}
-use mathlib.Core.Bool.{Bool, true, false, not, cond, ◌&&◌}
+use mathlib.Core.Path.{◌≡◌, refl, sym, ◌∙◌}
+use mathlib.Core.Bool.{Bool, true, false, not, ◌&&◌}
 use mathlib.Core.List.{List, [], ◌∷◌}
-use Prim.Native.Nat.{ℕ, zero, suc, ◌+◌, ◌-◌, ◌*◌, ◌≤◌, ◌<◌, min}
+use Prim.Native.Nat.{ℕ, suc, ◌+◌, ◌-◌, ◌*◌, ◌≤◌, ◌<◌, min}
 use native.Mathlib.Nat.{add-sub_cancel_left, sub-zero}
 use native.Mathlib.Omega.{arith}
 use native.Mathlib.Numerals.{add-one}
@@ -12,7 +12,7 @@ use lib.Seq.{drop-cons, drop-drop}
 use borrow.Author.Tests.{eqb-true, eqb-false, eq-eqb, ne_eqb, not-true, not-false}
 use Rattle.leaf_node.specs.Page.{word}
 use Rattle.leaf_node.proofs.Rules.{true_is_not_false}
-use Rattle.overflow.specs.Read.{all_zero, page_right, pages_in, pages_right, cell_size, cell_count, cell_right}
+use Rattle.overflow.specs.Read.{all_zero, page_right, pages_in, pages_right}
 use Rattle.overflow.specs.Verdict.{all_right, read_verdict}
 use Rattle.overflow.specs.Steps.{RightCell, CellRead}
 use Rattle.overflow.proofs.Reading.{next_page_in, no_page_in, next_page_right, no_page_right}

@@ -1,17 +1,16 @@
 -- Joining and freeing: what the loops write, and the calls. Assumes nothing.
-use mathlib.Core.Path.{◌≡◌, refl, sym, ap, ◌∙◌}
-use mathlib.Core.Bool.{Bool, true, false}
-use mathlib.Core.List.{List, [], ◌∷◌, ◌++◌}
-use Prim.Native.Nat.{ℕ, zero, suc, ◌+◌, ◌-◌, ◌*◌, ◌≤◌, ◌<◌, min}
+use mathlib.Core.Path.{◌≡◌, refl, sym, ◌∙◌}
+use mathlib.Core.Bool.{Bool, true}
+use mathlib.Core.List.{List, ◌++◌}
+use Prim.Native.Nat.{ℕ, suc, ◌+◌, ◌-◌, ◌*◌, ◌≤◌, ◌<◌, min}
 use native.Mathlib.Nat.{add-zero, add-sub_cancel_left, sub-zero}
 use native.Mathlib.Omega.{arith}
-use lib.Dec.{leb, eqb}
+use lib.Dec.{leb}
 use lib.ListN.{length, take, drop, set, length-set, length-take, length-drop}
 use lib.Seq.{drop-drop}
 use borrow.Author.Tests.{leb-true, ne_eqb}
 use Rattle.leaf_node.specs.Build.{put}
 use Rattle.leaf_builder.proofs.Putting.{put_none, put_put, length_put}
-use Rattle.overflow.specs.Count.{page_count}
 use Rattle.overflow.specs.Read.{low_number, numbers_read, cell_size, cell_count, cell_numbers_read, pages_in, pages_right, page_bytes, joined_value, freed_numbers}
 use Rattle.overflow.specs.Verdict.{all_right, read_verdict}
 use Rattle.overflow.specs.Outcome.{join_of, free_of}

@@ -1,8 +1,8 @@
 -- Splitting: one page written, and what the loop over the pages leaves to be written. Assumes nothing.
 use mathlib.Core.Path.{◌≡◌, refl, sym, ap, ◌∙◌}
 use mathlib.Core.Bool.{Bool, true, false}
-use mathlib.Core.List.{List, [], ◌∷◌, ◌++◌, append_assoc}
-use Prim.Native.Nat.{ℕ, zero, suc, ◌+◌, ◌-◌, ◌*◌, ◌≤◌, ◌<◌, min}
+use mathlib.Core.List.{List, ◌++◌, append_assoc}
+use Prim.Native.Nat.{ℕ, suc, ◌+◌, ◌-◌, ◌*◌, ◌≤◌, ◌<◌, min}
 use native.Mathlib.Nat.{add-sub_cancel_left, sub-zero}
 use native.Mathlib.Omega.{arith}
 use lib.ListN.{length, take, drop, length-append, length-take, length-drop, drop_of_length-le}
@@ -11,7 +11,6 @@ use borrow.Author.Tests.{leb-true, leb-false, ne_eqb}
 use lib.Dec.{leb}
 use Rattle.bit_ops.specs.Steps.{zeros}
 use Rattle.leaf_node.specs.Build.{put}
-use Rattle.leaf_node.proofs.Lengths.{length_zeros}
 use Rattle.leaf_builder.proofs.Putting.{take_drop, put_none, put_put, length_put}
 use Rattle.leaf_model.specs.Basics.{joined}
 use Rattle.overflow.specs.declared.LeafSplit.{LeafSplit}

@@ -1,8 +1,6 @@
 -- `bit_ops::bit_value` meets its contract.
 -- Assumes nothing.
-use Rattle.std.proofs.Common.{rules}
 use Prim.Native.Nat.{◌-◌}
-use native.Mathlib.Omega.{arith}
 use lib.Pow.{pow_pos}
 use Rattle.bit_ops.proofs.Digits.{bit_of_byte}
 use Rattle.bit_ops.proofs.bit_value.Goals as goal

@@ -1,10 +1,8 @@
 -- `bit_ops::clear_from` meets its contract. The invariant: the first j bytes are those of `cleared_from`.
 -- Assumes nothing.
 use Rattle.std.proofs.Common.{rules}
-use Prim.Native.Nat.{◌-◌, ◌≤◌}
-use Rattle.bit_ops.specs.Steps.{cleared_from}
 use Rattle.bit_ops.proofs.Cutting.{length_cleared, cleared_before, cleared_after}
-use Rattle.bit_ops.proofs.Filling.{Filled, filled_from, filled_more, filled_all}
+use Rattle.bit_ops.proofs.Filling.{filled_from, filled_more, filled_all}
 use Rattle.bit_ops.proofs.clear_from.Goals as goal
 
 pub loop-j-init : goal.loop-j-init

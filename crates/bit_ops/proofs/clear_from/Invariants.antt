@@ -2,8 +2,7 @@
 -- Assumes nothing.
 use Prim.Native.Nat.{◌-◌, ◌≤◌}
 use Rattle.bit_ops.specs.Steps.{cleared_from}
-use Rattle.bit_ops.proofs.Cutting.{length_cleared, cleared_before, cleared_after}
-use Rattle.bit_ops.proofs.Filling.{Filled, filled_from, filled_more, filled_all}
+use Rattle.bit_ops.proofs.Filling.{Filled}
 use Rattle.bit_ops.proofs.clear_from.Given as goal
 
 abbrev pub invariant-loop-j : goal.invariant-loop-j

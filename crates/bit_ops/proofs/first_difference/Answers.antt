@@ -1,9 +1,6 @@
 -- `bit_ops::first_difference` meets its contract. The invariant: the words before `i` are the same in both.
 -- Assumes nothing.
 use Rattle.std.proofs.Common.{rules}
-use mathlib.Core.Path.{◌≡◌, refl}
-use Prim.Native.Nat.{◌≤◌, ◌-◌, ◌*◌}
-use lib.ListN.{take}
 use Rattle.bit_ops.specs.Key.{Key}
 use Rattle.bit_ops.proofs.Words.{word_shared_too, word_differs, last_word}
 use Rattle.bit_ops.proofs.first_difference.Goals as goal

@@ -1,10 +1,8 @@
 -- `bit_ops::first_difference` meets its contract. The invariant: the words before `i` are the same in both.
 -- Assumes nothing.
-use mathlib.Core.Path.{◌≡◌, refl}
+use mathlib.Core.Path.{◌≡◌}
 use Prim.Native.Nat.{◌≤◌, ◌-◌, ◌*◌}
 use lib.ListN.{take}
-use Rattle.bit_ops.specs.Key.{Key}
-use Rattle.bit_ops.proofs.Words.{word_shared_too, word_differs, last_word}
 use Rattle.bit_ops.proofs.first_difference.Given as goal
 
 abbrev pub invariant-loop-i : goal.invariant-loop-i

@@ -1,6 +1,5 @@
 -- `bit_ops::separate` meets its contract: what it writes is b, cut after the bit at which the keys first differ.
 -- Assumes nothing.
-use Rattle.std.proofs.Common.{rules}
 use mathlib.Core.Path.{◌∙◌}
 use native.Mathlib.Omega.{arith}
 use Rattle.bit_ops.proofs.Separators.{refused, made}

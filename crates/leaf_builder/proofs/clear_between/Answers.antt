@@ -1,11 +1,7 @@
 -- `leaf_builder::clear_between` meets its contract: the bytes before i are zeros.
 -- Assumes nothing.
 use Rattle.std.proofs.Common.{rules}
-use mathlib.Core.Path.{◌≡◌, refl}
-use Prim.Native.Nat.{◌-◌, ◌≤◌}
-use lib.ListN.{length}
-use lib.Seq.{paste}
-use Rattle.bit_ops.specs.Steps.{zeros}
+use mathlib.Core.Path.{refl}
 use Rattle.leaf_builder.proofs.Writing.{clear_start, clear_more, clear_done}
 use Rattle.leaf_builder.proofs.clear_between.Goals as goal
 

@@ -1,11 +1,10 @@
 -- `leaf_builder::clear_between` meets its contract: the bytes before i are zeros.
 -- Assumes nothing.
-use mathlib.Core.Path.{◌≡◌, refl}
+use mathlib.Core.Path.{◌≡◌}
 use Prim.Native.Nat.{◌-◌, ◌≤◌}
 use lib.ListN.{length}
 use lib.Seq.{paste}
 use Rattle.bit_ops.specs.Steps.{zeros}
-use Rattle.leaf_builder.proofs.Writing.{clear_start, clear_more, clear_done}
 use Rattle.leaf_builder.proofs.clear_between.Given as goal
 
 abbrev pub invariant-loop-i : goal.invariant-loop-i

@@ -1,10 +1,6 @@
 -- `leaf_builder::move_pointers` meets its contract: after each record the pointers up to it are final, the later ones as before.
 -- Assumes nothing.
 use Rattle.std.proofs.Common.{rules}
-use mathlib.Core.Path.{◌≡◌}
-use Prim.Native.Nat.{◌+◌, ◌-◌, ◌≤◌}
-use Rattle.leaf_node.specs.Page.{pointer}
-use Rattle.leaf_builder.specs.Steps.{PointersUpTo}
 use Rattle.leaf_builder.proofs.Writing.{chunk_shift, closer}
 use Rattle.leaf_builder.proofs.Shifting.{no_pointer_yet, one_pointer_more, all_pointers}
 use Rattle.leaf_builder.proofs.move_pointers.Goals as goal

@@ -4,8 +4,6 @@ use mathlib.Core.Path.{◌≡◌}
 use Prim.Native.Nat.{◌+◌, ◌-◌, ◌≤◌}
 use Rattle.leaf_node.specs.Page.{pointer}
 use Rattle.leaf_builder.specs.Steps.{PointersUpTo}
-use Rattle.leaf_builder.proofs.Writing.{chunk_shift, closer}
-use Rattle.leaf_builder.proofs.Shifting.{no_pointer_yet, one_pointer_more, all_pointers}
 use Rattle.leaf_builder.proofs.move_pointers.Given as goal
 
 abbrev pub invariant-loop-i : goal.invariant-loop-i

@@ -1,11 +1,10 @@
 -- `leaf_builder::push_cells` meets its contract: the records before i are pushed.
 -- Assumes nothing.
-use mathlib.Core.Path.{◌≡◌, refl}
+use mathlib.Core.Path.{◌≡◌}
 use Prim.Native.Nat.{◌+◌, ◌-◌, ◌≤◌}
 use lib.ListN.{length}
 use Rattle.leaf_node.specs.Page.{start, records_between}
 use Rattle.leaf_node.specs.Build.{pushed}
-use Rattle.leaf_builder.proofs.Writing.{cells_start, cells_done, cells_end, cells_one, cells_next, cells_more, closer}
 use Rattle.leaf_builder.proofs.push_cells.Given as goal
 
 abbrev pub invariant-loop-i : goal.invariant-loop-i

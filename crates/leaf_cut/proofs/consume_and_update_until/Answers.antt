@@ -1,8 +1,6 @@
 -- `leaf_cut::consume_and_update_until` meets its contract. The invariant: the leaf has come to the cursor.
 -- Assumes nothing.
 use Rattle.std.proofs.Common.{rules}
-use Prim.Native.Nat.{◌-◌}
-use Rattle.leaf_cut.specs.Steps.{Walked}
 use Rattle.leaf_cut.proofs.Walking.{a_walk_starts, the_row_is_there, the_entry_has_a_piece, the_leaf_ends_in_the_entry, the_leaf_goes_on, the_walk_comes_closer, the_rest_is_reached, the_leaf_ends_in_the_rest}
 use Rattle.leaf_cut.proofs.consume_and_update_until.Goals as goal
 

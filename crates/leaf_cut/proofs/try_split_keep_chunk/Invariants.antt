@@ -1,10 +1,9 @@
 -- `leaf_cut::try_split_keep_chunk` meets its contract. The invariant: from record i on the leaf ends where it does from the start.
 -- Assumes nothing.
-use mathlib.Core.Path.{◌≡◌, refl}
+use mathlib.Core.Path.{◌≡◌}
 use Prim.Native.Nat.{◌+◌, ◌-◌, ◌*◌, ◌≤◌, ◌<◌}
 use Rattle.leaf_node.specs.Page.{length_at, run}
 use Rattle.leaf_cut.specs.Sizes.{cut_sizes}
-use Rattle.leaf_cut.proofs.Ending.{the_chunk_is_taken, the_leaf_ends_before, the_leaf_ends_behind, the_leaf_ends_later}
 use Rattle.leaf_cut.proofs.try_split_keep_chunk.Given as goal
 
 abbrev pub invariant-loop-i : goal.invariant-loop-i

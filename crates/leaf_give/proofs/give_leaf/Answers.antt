@@ -1,6 +1,5 @@
 -- `leaf_give::give_leaf` meets its contract.
 -- Assumes nothing.
-use Rattle.std.proofs.Common.{rules}
 use mathlib.Core.Path.{refl}
 use native.Mathlib.Omega.{arith}
 use Rattle.leaf_give.proofs.OneLeaf.{the_key_behind_is_there, a_ticket_can_be_given, a_leaf_is_given}

@@ -1,6 +1,5 @@
 -- `leaf_give::give_leaves` meets its contract.
 -- Assumes nothing.
-use Rattle.std.proofs.Common.{rules}
 use native.Mathlib.Omega.{arith}
 use Rattle.leaf_give.proofs.Finishing.{nothing_is_left, few_records_are_left, few_bytes_are_left, the_rest_waits, the_last_leaf_can_be_given, the_last_leaf_is_given}
 use Rattle.leaf_give.proofs.give_leaves.Goals as goal

@@ -1,6 +1,5 @@
 -- `leaf_give::give_ticket` meets its contract.
 -- Assumes nothing.
-use Rattle.std.proofs.Common.{rules}
 use native.Mathlib.Omega.{arith}
 use Rattle.leaf_give.proofs.give_ticket.Goals as goal
 

@@ -1,6 +1,5 @@
 -- `leaf_give::key_behind` meets its contract.
 -- Assumes nothing.
-use Rattle.std.proofs.Common.{rules}
 use Rattle.leaf_give.proofs.key_behind.Goals as goal
 
 pub op_first_key-requires : goal.op_first_key-requires

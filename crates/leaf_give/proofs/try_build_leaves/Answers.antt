@@ -1,9 +1,8 @@
 -- `leaf_give::try_build_leaves` meets its contract. The invariant: the leaves so far are given out, and the next one was sought behind them.
 -- Assumes nothing.
 use Rattle.std.proofs.Common.{rules}
-use mathlib.Core.Path.{◌≡◌, refl}
-use lib.ListN.{length}
-use Rattle.leaf_give.proofs.LeafByLeaf.{Cutting, the_first_leaf_can_be_sought, cutting_begins, no_leaf_is_left_to_cut, a_leaf_can_be_given, the_next_leaf_can_be_sought, fewer_records_are_left, cutting_goes_on}
+use mathlib.Core.Path.{refl}
+use Rattle.leaf_give.proofs.LeafByLeaf.{the_first_leaf_can_be_sought, cutting_begins, no_leaf_is_left_to_cut, a_leaf_can_be_given, the_next_leaf_can_be_sought, fewer_records_are_left, cutting_goes_on}
 use Rattle.leaf_give.proofs.try_build_leaves.Goals as goal
 
 pub consume_and_update_until-t-requires : goal.consume_and_update_until-t-requires

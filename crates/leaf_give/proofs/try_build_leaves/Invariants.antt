@@ -1,8 +1,8 @@
 -- `leaf_give::try_build_leaves` meets its contract. The invariant: the leaves so far are given out, and the next one was sought behind them.
 -- Assumes nothing.
-use mathlib.Core.Path.{◌≡◌, refl}
+use mathlib.Core.Path.{◌≡◌}
 use lib.ListN.{length}
-use Rattle.leaf_give.proofs.LeafByLeaf.{Cutting, the_first_leaf_can_be_sought, cutting_begins, no_leaf_is_left_to_cut, a_leaf_can_be_given, the_next_leaf_can_be_sought, fewer_records_are_left, cutting_goes_on}
+use Rattle.leaf_give.proofs.LeafByLeaf.{Cutting}
 use Rattle.leaf_give.proofs.try_build_leaves.Given as goal
 
 abbrev pub invariant-loop-t : goal.invariant-loop-t

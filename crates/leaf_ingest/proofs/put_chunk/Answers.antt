@@ -1,6 +1,5 @@
 -- `leaf_ingest::put_chunk` meets its contract.
 -- Assumes nothing.
-use Rattle.std.proofs.Common.{rules}
 use Rattle.leaf_ingest.proofs.Writing.{no_chunk_is_listed, a_chunk_is_listed}
 use Rattle.leaf_ingest.proofs.put_chunk.Goals as goal
 

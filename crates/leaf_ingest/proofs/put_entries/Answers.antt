@@ -1,6 +1,5 @@
 -- `leaf_ingest::put_entries` meets its contract.
 -- Assumes nothing.
-use Rattle.std.proofs.Common.{rules}
 use Rattle.leaf_ingest.proofs.Writing.{entries_stand_behind_each_other}
 use native.Mathlib.Omega.{arith}
 use Rattle.leaf_work.specs.TakingUp.{chunk_entries, insert_entries}

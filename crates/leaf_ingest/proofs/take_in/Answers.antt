@@ -1,6 +1,5 @@
 -- `leaf_ingest::take_in` meets its contract.
 -- Assumes nothing.
-use Rattle.std.proofs.Common.{rules}
 use Rattle.leaf_ingest.proofs.Writing.{the_value_has_room, the_gauge_is_small, an_accepted_ingest_is_stepped}
 use Rattle.leaf_ingest.proofs.take_in.Goals as goal
 

@@ -1,10 +1,7 @@
 -- `leaf_move::clear_keys` meets its contract. The invariant: those up to i are cleared.
 -- Assumes nothing.
 use Rattle.std.proofs.Common.{rules}
-use Prim.Native.Nat.{◌-◌}
-use lib.ListN.{length}
-use Rattle.leaf_model.specs.Work.{zero_key}
-use Rattle.leaf_move.proofs.Forward.{Clearing, none_is_cleared, one_more_is_cleared, all_are_cleared}
+use Rattle.leaf_move.proofs.Forward.{none_is_cleared, one_more_is_cleared, all_are_cleared}
 use Rattle.leaf_move.proofs.clear_keys.Goals as goal
 
 pub loop-i-init : goal.loop-i-init

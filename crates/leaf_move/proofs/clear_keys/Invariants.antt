@@ -3,7 +3,7 @@
 use Prim.Native.Nat.{◌-◌}
 use lib.ListN.{length}
 use Rattle.leaf_model.specs.Work.{zero_key}
-use Rattle.leaf_move.proofs.Forward.{Clearing, none_is_cleared, one_more_is_cleared, all_are_cleared}
+use Rattle.leaf_move.proofs.Forward.{Clearing}
 use Rattle.leaf_move.proofs.clear_keys.Given as goal
 
 abbrev pub invariant-loop-i : goal.invariant-loop-i

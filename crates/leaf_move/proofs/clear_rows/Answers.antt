@@ -1,11 +1,7 @@
 -- `leaf_move::clear_rows` meets its contract. The invariant: those up to i are cleared.
 -- Assumes nothing.
 use Rattle.std.proofs.Common.{rules}
-use Prim.Native.Nat.{◌-◌}
-use lib.ListN.{length}
-use Rattle.leaf_work.specs.Lent.{blank}
-use Rattle.leaf_work.specs.Flat.{row_of}
-use Rattle.leaf_move.proofs.Forward.{Clearing, none_is_cleared, one_more_is_cleared, all_are_cleared}
+use Rattle.leaf_move.proofs.Forward.{none_is_cleared, one_more_is_cleared, all_are_cleared}
 use Rattle.leaf_move.proofs.clear_rows.Goals as goal
 
 pub loop-i-init : goal.loop-i-init

@@ -1,7 +1,7 @@
 -- `leaf_move::lower_bytes` meets its contract. The invariant: the first i are moved.
 -- Assumes nothing.
 use Prim.Native.Nat.{◌-◌}
-use Rattle.leaf_move.proofs.Forward.{Lowering, none_is_lowered, one_more_is_lowered, all_are_lowered}
+use Rattle.leaf_move.proofs.Forward.{Lowering}
 use Rattle.leaf_move.proofs.lower_bytes.Given as goal
 
 abbrev pub invariant-loop-i : goal.invariant-loop-i

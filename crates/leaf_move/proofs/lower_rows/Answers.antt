@@ -1,8 +1,7 @@
 -- `leaf_move::lower_rows` meets its contract. The invariant: the first i are moved.
 -- Assumes nothing.
 use Rattle.std.proofs.Common.{rules}
-use Prim.Native.Nat.{◌-◌}
-use Rattle.leaf_move.proofs.Forward.{Lowering, none_is_lowered, one_more_is_lowered, all_are_lowered}
+use Rattle.leaf_move.proofs.Forward.{none_is_lowered, one_more_is_lowered, all_are_lowered}
 use Rattle.leaf_move.proofs.lower_rows.Goals as goal
 
 pub loop-i-init : goal.loop-i-init

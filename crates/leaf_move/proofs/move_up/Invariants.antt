@@ -1,6 +1,6 @@
 -- `leaf_move::move_up` meets its contract. The invariant: bytes i up to the end have moved.
 -- Assumes nothing.
-use Rattle.leaf_move.proofs.Under.{Moving, none_has_moved, one_more_moves, all_have_moved}
+use Rattle.leaf_move.proofs.Under.{Moving}
 use Rattle.leaf_move.proofs.move_up.Given as goal
 
 abbrev pub invariant-loop-i : goal.invariant-loop-i

@@ -1,10 +1,8 @@
 -- `leaf_node::copy_in` meets its contract: after j turns the first j bytes are copied.
 -- Assumes nothing.
 use Rattle.std.proofs.Common.{rules}
-use mathlib.Core.Path.{◌≡◌, refl}
-use Prim.Native.Nat.{◌-◌, ◌≤◌}
-use lib.ListN.{length}
-use lib.Seq.{paste, paste-zero}
+use mathlib.Core.Path.{refl}
+use lib.Seq.{paste-zero}
 use Rattle.leaf_node.proofs.Copying.{put_more, put_done}
 use Rattle.leaf_node.proofs.copy_in.Goals as goal
 

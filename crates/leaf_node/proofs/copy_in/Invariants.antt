@@ -1,10 +1,9 @@
 -- `leaf_node::copy_in` meets its contract: after j turns the first j bytes are copied.
 -- Assumes nothing.
-use mathlib.Core.Path.{◌≡◌, refl}
+use mathlib.Core.Path.{◌≡◌}
 use Prim.Native.Nat.{◌-◌, ◌≤◌}
 use lib.ListN.{length}
-use lib.Seq.{paste, paste-zero}
-use Rattle.leaf_node.proofs.Copying.{put_more, put_done}
+use lib.Seq.{paste}
 use Rattle.leaf_node.proofs.copy_in.Given as goal
 
 abbrev pub invariant-loop-j : goal.invariant-loop-j

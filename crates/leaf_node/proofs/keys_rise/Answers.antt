@@ -1,10 +1,8 @@
 -- `leaf_node::keys_rise` meets its contract: the keys seen so far rise.
 -- Assumes nothing.
 use Rattle.std.proofs.Common.{rules}
-use mathlib.Core.Path.{◌≡◌, refl}
-use Prim.Native.Nat.{◌-◌, ◌≤◌}
-use mathlib.Core.Bool.{true}
-use Rattle.leaf_node.specs.Good.{all_below, key_step}
+use mathlib.Core.Path.{refl}
+use Rattle.leaf_node.specs.Good.{all_below}
 use Rattle.leaf_node.proofs.Rules.{keys_not, keys_more, keys_done}
 use Rattle.leaf_node.proofs.keys_rise.Goals as goal
 

@@ -1,10 +1,9 @@
 -- `leaf_node::keys_rise` meets its contract: the keys seen so far rise.
 -- Assumes nothing.
-use mathlib.Core.Path.{◌≡◌, refl}
+use mathlib.Core.Path.{◌≡◌}
 use Prim.Native.Nat.{◌-◌, ◌≤◌}
 use mathlib.Core.Bool.{true}
 use Rattle.leaf_node.specs.Good.{all_below, key_step}
-use Rattle.leaf_node.proofs.Rules.{keys_not, keys_more, keys_done}
 use Rattle.leaf_node.proofs.keys_rise.Given as goal
 
 abbrev pub invariant-loop-i : goal.invariant-loop-i

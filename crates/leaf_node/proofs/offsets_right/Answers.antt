@@ -1,8 +1,7 @@
 -- `leaf_node::offsets_right` meets its contract: the offsets seen so far are right, and `low` is what the next must reach.
 -- Assumes nothing.
 use Rattle.std.proofs.Common.{rules}
-use Prim.Native.Nat.{◌-◌}
-use Rattle.leaf_node.proofs.Rules.{OffsetsSeen, offsets_start, offsets_low, offsets_past, offsets_more, offsets_done}
+use Rattle.leaf_node.proofs.Rules.{offsets_start, offsets_low, offsets_past, offsets_more, offsets_done}
 use Rattle.leaf_node.proofs.offsets_right.Goals as goal
 
 pub loop-i-init : goal.loop-i-init

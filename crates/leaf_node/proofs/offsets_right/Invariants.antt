@@ -1,7 +1,7 @@
 -- `leaf_node::offsets_right` meets its contract: the offsets seen so far are right, and `low` is what the next must reach.
 -- Assumes nothing.
 use Prim.Native.Nat.{◌-◌}
-use Rattle.leaf_node.proofs.Rules.{OffsetsSeen, offsets_start, offsets_low, offsets_past, offsets_more, offsets_done}
+use Rattle.leaf_node.proofs.Rules.{OffsetsSeen}
 use Rattle.leaf_node.proofs.offsets_right.Given as goal
 
 abbrev pub invariant-loop-i : goal.invariant-loop-i

@@ -1,8 +1,7 @@
 -- `leaf_node::place_from` meets its contract: lo and hi bracket the place.
 -- Assumes nothing.
 use Rattle.std.proofs.Common.{rules}
-use Prim.Native.Nat.{◌-◌}
-use Rattle.leaf_node.proofs.Searches.{Bracket, bracket_start, bracket_up, bracket_down, bracket_end}
+use Rattle.leaf_node.proofs.Searches.{bracket_start, bracket_up, bracket_down, bracket_end}
 use Rattle.leaf_node.proofs.place_from.Goals as goal
 
 pub loop-lo-init : goal.loop-lo-init

@@ -1,7 +1,7 @@
 -- `leaf_node::place_from` meets its contract: lo and hi bracket the place.
 -- Assumes nothing.
 use Prim.Native.Nat.{◌-◌}
-use Rattle.leaf_node.proofs.Searches.{Bracket, bracket_start, bracket_up, bracket_down, bracket_end}
+use Rattle.leaf_node.proofs.Searches.{Bracket}
 use Rattle.leaf_node.proofs.place_from.Given as goal
 
 abbrev pub invariant-loop-lo : goal.invariant-loop-lo

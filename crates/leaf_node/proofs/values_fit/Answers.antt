@@ -1,10 +1,8 @@
 -- `leaf_node::values_fit` meets its contract: the values seen so far fit.
 -- Assumes nothing.
 use Rattle.std.proofs.Common.{rules}
-use mathlib.Core.Path.{◌≡◌, refl}
-use Prim.Native.Nat.{◌-◌, ◌≤◌}
-use mathlib.Core.Bool.{true}
-use Rattle.leaf_node.specs.Good.{all_below, value_fits}
+use mathlib.Core.Path.{refl}
+use Rattle.leaf_node.specs.Good.{all_below}
 use Rattle.leaf_node.proofs.Rules.{values_long, values_more, values_done}
 use Rattle.leaf_node.proofs.values_fit.Goals as goal
 

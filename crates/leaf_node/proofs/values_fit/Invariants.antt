@@ -1,10 +1,9 @@
 -- `leaf_node::values_fit` meets its contract: the values seen so far fit.
 -- Assumes nothing.
-use mathlib.Core.Path.{◌≡◌, refl}
+use mathlib.Core.Path.{◌≡◌}
 use Prim.Native.Nat.{◌-◌, ◌≤◌}
 use mathlib.Core.Bool.{true}
 use Rattle.leaf_node.specs.Good.{all_below, value_fits}
-use Rattle.leaf_node.proofs.Rules.{values_long, values_more, values_done}
 use Rattle.leaf_node.proofs.values_fit.Given as goal
 
 abbrev pub invariant-loop-i : goal.invariant-loop-i

@@ -1,6 +1,5 @@
 -- `leaf_page::found_value` meets its contract.
 -- Assumes nothing.
-use Rattle.std.proofs.Common.{rules}
 use Rattle.leaf_page.proofs.found_value.Goals as goal
 
 pub returns : goal.returns

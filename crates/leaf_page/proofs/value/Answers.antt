@@ -1,6 +1,5 @@
 -- `leaf_page::value` meets its contract.
 -- Assumes nothing.
-use Rattle.std.proofs.Common.{rules}
 use mathlib.Core.Path.{ap, ◌∙◌}
 use Rattle.leaf_page.specs.Reply.{value_out}
 use Rattle.leaf_page.proofs.value.Goals as goal

@@ -1,6 +1,5 @@
 -- `leaf_page::values_size` meets its contract.
 -- Assumes nothing.
-use Rattle.std.proofs.Common.{rules}
 use mathlib.Core.Path.{ap, ◌∙◌}
 use Rattle.leaf_page.specs.Reply.{size_out}
 use Rattle.leaf_page.proofs.values_size.Goals as goal

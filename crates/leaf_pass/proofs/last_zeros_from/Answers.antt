@@ -1,10 +1,8 @@
 -- `leaf_pass::last_zeros_from` meets its contract. The invariant: the rest from `i` on decides.
 -- Assumes nothing.
 use Rattle.std.proofs.Common.{rules, ne_eqb, eq-eqb}
-use mathlib.Core.Path.{◌≡◌, refl}
-use Prim.Native.Nat.{◌-◌}
-use lib.ListN.{length, get_or, drop}
-use Rattle.leaf_work.specs.Tests.{every, is_zero}
+use lib.ListN.{get_or}
+use Rattle.leaf_work.specs.Tests.{is_zero}
 use Rattle.leaf_work.proofs.Everyone.{every_more, every_fails, every_passes}
 use Rattle.leaf_pass.proofs.last_zeros_from.Goals as goal
 

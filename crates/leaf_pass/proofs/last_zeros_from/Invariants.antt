@@ -1,10 +1,9 @@
 -- `leaf_pass::last_zeros_from` meets its contract. The invariant: the rest from `i` on decides.
 -- Assumes nothing.
-use mathlib.Core.Path.{◌≡◌, refl}
+use mathlib.Core.Path.{◌≡◌}
 use Prim.Native.Nat.{◌-◌}
-use lib.ListN.{length, get_or, drop}
+use lib.ListN.{length, drop}
 use Rattle.leaf_work.specs.Tests.{every, is_zero}
-use Rattle.leaf_work.proofs.Everyone.{every_more, every_fails, every_passes}
 use Rattle.leaf_pass.proofs.last_zeros_from.Given as goal
 
 abbrev pub invariant-loop-i : goal.invariant-loop-i

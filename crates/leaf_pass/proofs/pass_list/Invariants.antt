@@ -1,11 +1,10 @@
 -- `leaf_pass::pass_list` meets its contract.
 -- Assumes nothing.
-use mathlib.Core.Path.{◌≡◌, refl}
+use mathlib.Core.Path.{◌≡◌}
 use Prim.Native.Nat.{◌-◌}
 use lib.ListN.{length, drop}
 use Rattle.leaf_work.specs.Flat.{entries_of}
 use Rattle.leaf_pass.specs.Pass.{Small, passed_all}
-use Rattle.leaf_pass.proofs.Passes.{one_entry_more, all_entries}
 use Rattle.leaf_pass.proofs.pass_list.Given as goal
 
 abbrev pub invariant-loop-i : goal.invariant-loop-i

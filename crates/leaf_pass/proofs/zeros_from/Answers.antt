@@ -1,10 +1,6 @@
 -- `leaf_pass::zeros_from` meets its contract.
 -- Assumes nothing.
 use Rattle.std.proofs.Common.{rules}
-use mathlib.Core.Path.{◌≡◌, refl}
-use Prim.Native.Nat.{◌-◌, ◌≤◌}
-use lib.ListN.{length, drop}
-use Rattle.leaf_work.specs.Tests.{every, is_zero}
 use Rattle.leaf_pass.proofs.Zeros.{eight_zeros_more, one_is_not_zero, the_last_decide}
 use Rattle.leaf_pass.proofs.zeros_from.Goals as goal
 

@@ -1,10 +1,9 @@
 -- `leaf_pass::zeros_from` meets its contract.
 -- Assumes nothing.
-use mathlib.Core.Path.{◌≡◌, refl}
+use mathlib.Core.Path.{◌≡◌}
 use Prim.Native.Nat.{◌-◌, ◌≤◌}
 use lib.ListN.{length, drop}
 use Rattle.leaf_work.specs.Tests.{every, is_zero}
-use Rattle.leaf_pass.proofs.Zeros.{eight_zeros_more, one_is_not_zero, the_last_decide}
 use Rattle.leaf_pass.proofs.zeros_from.Given as goal
 
 abbrev pub invariant-loop-i : goal.invariant-loop-i

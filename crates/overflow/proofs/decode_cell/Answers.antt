@@ -2,13 +2,6 @@
 use Rattle.std.proofs.Common.{rules}
 use Rattle.overflow.proofs.Counts.{a_size_is_small}
 use Rattle.overflow.proofs.Cells.{a_short_cell_is_wrong, a_cell_of_a_wrong_size_is_wrong, a_cell_of_another_length_is_wrong, a_right_cell_is_read}
-use Rattle.overflow.proofs.decode_cell.Reads as reads
-use Rattle.overflow.proofs.decode_cell.Lts as lts
-use Rattle.overflow.proofs.in_cell.Reads as in-cell-reads
-use Rattle.overflow.proofs.no_cell.Reads as no-cell-reads
-use Rattle.overflow.proofs.size_in.Reads as size-in-reads
-use Rattle.overflow.proofs.size_right.Reads as size-right-reads
-use Rattle.overflow.proofs.total_needed_pages.Reads as total-needed-pages-reads
 use Rattle.overflow.proofs.decode_cell.Goals as goal
 
 -- src/lib.rt:248:9

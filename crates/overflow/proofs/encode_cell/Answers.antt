@@ -1,11 +1,6 @@
 -- src/lib.rt:217:13
 use Rattle.std.proofs.Common.{rules}
 use Rattle.overflow.proofs.Cells.{a_cell_is_written}
-use Rattle.overflow.proofs.encode_cell.Reads as reads
-use Rattle.overflow.proofs.encode_cell.Lts as lts
-use Rattle.leaf_node.proofs.copy_in.Reads as copy-in-reads
-use Rattle.overflow.proofs.put_low.Reads as put-low-reads
-use Rattle.overflow.proofs.put_numbers.Reads as put-numbers-reads
 use Rattle.overflow.proofs.encode_cell.Goals as goal
 
 -- src/lib.rt:212:1

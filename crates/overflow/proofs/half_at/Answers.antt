@@ -1,9 +1,6 @@
 -- src/lib.rt:147:10
 use Rattle.std.proofs.Common.{rules}
 use Rattle.leaf_node.specs.Page.{word}
-use Rattle.overflow.proofs.half_at.Reads as reads
-use Rattle.overflow.proofs.half_at.Lts as lts
-use Rattle.overflow.proofs.wide.Reads as wide-reads
 use Rattle.overflow.proofs.half_at.Goals as goal
 
 -- src/lib.rt:143:1

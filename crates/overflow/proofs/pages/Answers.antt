@@ -1,10 +1,6 @@
 -- src/lib.rt:109:9
 use Rattle.std.proofs.Common.{rules}
 use Rattle.overflow.proofs.Counts.{a_wrong_size_is_refused, a_size_is_small, a_size_is_counted}
-use Rattle.overflow.proofs.pages.Reads as reads
-use Rattle.overflow.proofs.pages.Lts as lts
-use Rattle.overflow.proofs.size_right.Reads as size-right-reads
-use Rattle.overflow.proofs.total_needed_pages.Reads as total-needed-pages-reads
 use Rattle.overflow.proofs.pages.Goals as goal
 
 -- src/lib.rt:110:9

@@ -1,8 +1,5 @@
 use Rattle.std.proofs.Common.{rules}
-use Rattle.overflow.proofs.Numbers.{Lowered, none_is_lowered, one_more_is_lowered, all_is_lowered}
-use Prim.Native.Nat.{◌-◌}
-use Rattle.overflow.proofs.put_low.Reads as reads
-use Rattle.overflow.proofs.put_low.Lts as lts
+use Rattle.overflow.proofs.Numbers.{none_is_lowered, one_more_is_lowered, all_is_lowered}
 use Rattle.overflow.proofs.put_low.Goals as goal
 
 -- src/lib.rt:183:5

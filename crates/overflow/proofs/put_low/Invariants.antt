@@ -1,7 +1,5 @@
-use Rattle.overflow.proofs.Numbers.{Lowered, none_is_lowered, one_more_is_lowered, all_is_lowered}
+use Rattle.overflow.proofs.Numbers.{Lowered}
 use Prim.Native.Nat.{◌-◌}
-use Rattle.overflow.proofs.put_low.Reads as reads
-use Rattle.overflow.proofs.put_low.Lts as lts
 use Rattle.overflow.proofs.put_low.Given as goal
 
 abbrev pub invariant-loop-j : goal.invariant-loop-j

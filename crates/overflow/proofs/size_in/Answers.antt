@@ -1,9 +1,6 @@
 -- src/lib.rt:228:9
 use Rattle.std.proofs.Common.{rules}
 use Rattle.overflow.proofs.Numbers.{size_is_read}
-use Rattle.overflow.proofs.size_in.Reads as reads
-use Rattle.overflow.proofs.size_in.Lts as lts
-use Rattle.overflow.proofs.word_at.Reads as word-at-reads
 use Rattle.overflow.proofs.size_in.Goals as goal
 
 -- src/lib.rt:224:1

@@ -1,8 +1,6 @@
 -- src/lib.rt:81:1
 use Rattle.std.proofs.Common.{rules}
 use Rattle.overflow.proofs.Counts.{size_is_tested}
-use Rattle.overflow.proofs.size_right.Reads as reads
-use Rattle.overflow.proofs.size_right.Lts as lts
 use Rattle.overflow.proofs.size_right.Goals as goal
 
 pub returns : goal.returns

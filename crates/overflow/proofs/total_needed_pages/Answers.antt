@@ -1,8 +1,6 @@
 -- src/lib.rt:93:27
 use Rattle.std.proofs.Common.{rules}
 use Rattle.overflow.proofs.Counts.{counted_in_the_cell, counted_beyond_the_cell}
-use Rattle.overflow.proofs.total_needed_pages.Reads as reads
-use Rattle.overflow.proofs.total_needed_pages.Lts as lts
 use Rattle.overflow.proofs.total_needed_pages.Goals as goal
 
 -- src/lib.rt:93:9

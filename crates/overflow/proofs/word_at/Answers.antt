@@ -1,9 +1,6 @@
 -- src/lib.rt:155:9
 use Rattle.std.proofs.Common.{rules}
 use Rattle.overflow.proofs.Numbers.{four_bytes_are_read}
-use Rattle.overflow.proofs.word_at.Reads as reads
-use Rattle.overflow.proofs.word_at.Lts as lts
-use Rattle.overflow.proofs.half_at.Reads as half-at-reads
 use Rattle.overflow.proofs.word_at.Goals as goal
 
 -- src/lib.rt:151:1

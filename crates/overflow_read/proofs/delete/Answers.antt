@@ -1,11 +1,6 @@
 -- src/lib.rt:167:9
 use Rattle.std.proofs.Common.{rules}
-use Rattle.overflow_read.proofs.Joining.{the_cell_has_its_numbers, the_pages_have_their_numbers, all_numbers_are_freed}
-use Rattle.overflow_read.proofs.delete.Reads as reads
-use Rattle.overflow_read.proofs.delete.Lts as lts
-use Rattle.overflow.proofs.in_cell.Reads as in-cell-reads
-use Rattle.overflow_read.proofs.others.Reads as others-reads
-use Rattle.overflow_read.proofs.take_numbers.Reads as take-numbers-reads
+use Rattle.overflow_read.proofs.Joining.{the_pages_have_their_numbers, all_numbers_are_freed}
 use Rattle.overflow_read.proofs.delete.Goals as goal
 
 -- src/lib.rt:169:5

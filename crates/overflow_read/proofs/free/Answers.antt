@@ -1,11 +1,6 @@
 -- src/lib.rt:177:9
 use Rattle.std.proofs.Common.{rules}
 use Rattle.overflow_read.proofs.Joining.{a_refused_free, a_refused_list, a_cell_to_free, pages_to_free, the_list_is_long, a_free, a_freed_list}
-use Rattle.overflow_read.proofs.free.Reads as reads
-use Rattle.overflow_read.proofs.free.Lts as lts
-use Rattle.overflow.proofs.decode_cell.Reads as decode-cell-reads
-use Rattle.overflow_read.proofs.delete.Reads as delete-reads
-use Rattle.overflow_read.proofs.read_verdict.Reads as read-verdict-reads
 use Rattle.overflow_read.proofs.free.Goals as goal
 
 -- src/lib.rt:181:9

@@ -1,11 +1,6 @@
 -- src/lib.rt:131:9
 use Rattle.std.proofs.Common.{rules}
 use Rattle.overflow_read.proofs.Joining.{a_refused_join, a_refused_value, pages_to_join, the_buffer_is_long, a_join, a_joined_value}
-use Rattle.overflow_read.proofs.join.Reads as reads
-use Rattle.overflow_read.proofs.join.Lts as lts
-use Rattle.overflow.proofs.decode_cell.Reads as decode-cell-reads
-use Rattle.overflow_read.proofs.join_pages.Reads as join-pages-reads
-use Rattle.overflow_read.proofs.read_verdict.Reads as read-verdict-reads
 use Rattle.overflow_read.proofs.join.Goals as goal
 
 -- src/lib.rt:135:9

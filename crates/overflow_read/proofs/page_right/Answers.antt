@@ -1,10 +1,6 @@
 -- src/lib.rt:46:8
 use Rattle.std.proofs.Common.{rules}
 use Rattle.overflow_read.proofs.Checking.{other_numbers, other_bytes, the_tail_decides}
-use Rattle.overflow_read.proofs.page_right.Reads as reads
-use Rattle.overflow_read.proofs.page_right.Lts as lts
-use Rattle.overflow.proofs.half_at.Reads as half-at-reads
-use Rattle.overflow_read.proofs.zeros_from.Reads as zeros-from-reads
 use Rattle.overflow_read.proofs.page_right.Goals as goal
 
 -- src/lib.rt:47:9

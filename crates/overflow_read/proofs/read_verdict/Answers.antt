@@ -1,9 +1,6 @@
 -- src/lib.rt:90:9
 use Rattle.std.proofs.Common.{rules}
 use Rattle.overflow_read.proofs.Checking.{a_wrong_cell, a_short_buffer, the_pages_are_there, wrong_pages, no_refusal}
-use Rattle.overflow_read.proofs.read_verdict.Reads as reads
-use Rattle.overflow_read.proofs.read_verdict.Lts as lts
-use Rattle.overflow_read.proofs.pages_right.Reads as pages-right-reads
 use Rattle.overflow_read.proofs.read_verdict.Goals as goal
 
 pub returns-then-not-cell : goal.returns-then-not-cell

@@ -1,8 +1,5 @@
-use Rattle.overflow_read.proofs.Joining.{Taken, no_number_is_taken, all_numbers_are_taken, one_more_number_is_taken}
+use Rattle.overflow_read.proofs.Joining.{Taken}
 use Prim.Native.Nat.{◌-◌}
-use Rattle.overflow_read.proofs.take_numbers.Reads as reads
-use Rattle.overflow_read.proofs.take_numbers.Lts as lts
-use Rattle.overflow.proofs.number_in.Reads as number-in-reads
 use Rattle.overflow_read.proofs.take_numbers.Given as goal
 
 abbrev pub invariant-loop-j : goal.invariant-loop-j

@@ -1,9 +1,6 @@
 -- src/lib.rt:32:5
 use Rattle.std.proofs.Common.{rules}
 use Rattle.overflow_split.proofs.Splitting.{a_head_is_written}
-use Rattle.overflow_split.proofs.put_head.Reads as reads
-use Rattle.overflow_split.proofs.put_head.Lts as lts
-use Rattle.overflow.proofs.put_low.Reads as put-low-reads
 use Rattle.overflow_split.proofs.put_head.Goals as goal
 
 -- src/lib.rt:28:1

@@ -1,14 +1,6 @@
 -- src/lib.rt:99:9
 use Rattle.std.proofs.Common.{rules}
 use Rattle.overflow_split.proofs.Splitting.{a_refused_reply, a_refused_area, the_value_is_small, the_list_has_the_numbers, the_first_numbers_are_there, the_area_has_the_pages, a_written_area, a_written_reply}
-use Rattle.overflow_split.proofs.split.Reads as reads
-use Rattle.overflow_split.proofs.split.Lts as lts
-use Rattle.overflow.proofs.encode_cell.Reads as encode-cell-reads
-use Rattle.overflow.proofs.in_cell.Reads as in-cell-reads
-use Rattle.overflow.proofs.total_needed_pages.Reads as total-needed-pages-reads
-use Rattle.overflow_split.proofs.chunk.Reads as chunk-reads
-use Rattle.overflow_split.proofs.refused_split.Reads as refused-split-reads
-use Rattle.overflow_split.proofs.split_verdict.Reads as split-verdict-reads
 use Rattle.overflow_split.proofs.split.Goals as goal
 
 -- src/lib.rt:101:9

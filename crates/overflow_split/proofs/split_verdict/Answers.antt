@@ -2,10 +2,6 @@
 use Rattle.std.proofs.Common.{rules}
 use Rattle.overflow.proofs.Verdicts.{a_wrong_length_is_refused, long_buffers_are_accepted, short_buffers_are_refused}
 use Rattle.overflow.proofs.Counts.{a_size_is_small}
-use Rattle.overflow_split.proofs.split_verdict.Reads as reads
-use Rattle.overflow_split.proofs.split_verdict.Lts as lts
-use Rattle.overflow.proofs.size_right.Reads as size-right-reads
-use Rattle.overflow.proofs.total_needed_pages.Reads as total-needed-pages-reads
 use Rattle.overflow_split.proofs.split_verdict.Goals as goal
 
 -- src/lib.rt:64:9

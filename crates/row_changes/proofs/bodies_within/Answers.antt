@@ -1,10 +1,7 @@
 -- `row_changes::bodies_within` meets its contract.
 -- Assumes nothing.
 use Rattle.std.proofs.Common.{rules}
-use Prim.Native.Nat.{◌-◌}
-use lib.ListN.{length}
-use Rattle.row_changes.specs.Tests.{put_body}
-use Rattle.row_changes.proofs.Loops.{Left, all_is_left, one_exceeds, less_is_left, nothing_exceeds}
+use Rattle.row_changes.proofs.Loops.{all_is_left, one_exceeds, less_is_left, nothing_exceeds}
 use Rattle.row_changes.proofs.bodies_within.Goals as goal
 
 pub loop-i-init : goal.loop-i-init

@@ -3,7 +3,7 @@
 use Prim.Native.Nat.{◌-◌}
 use lib.ListN.{length}
 use Rattle.row_changes.specs.Tests.{put_body}
-use Rattle.row_changes.proofs.Loops.{Left, all_is_left, one_exceeds, less_is_left, nothing_exceeds}
+use Rattle.row_changes.proofs.Loops.{Left}
 use Rattle.row_changes.proofs.bodies_within.Given as goal
 
 abbrev pub invariant-loop-i : goal.invariant-loop-i

@@ -1,9 +1,7 @@
 -- `row_changes::keys_rise` meets its contract.
 -- Assumes nothing.
 use Rattle.std.proofs.Common.{rules}
-use Prim.Native.Nat.{◌-◌}
-use lib.ListN.{length}
-use Rattle.row_changes.proofs.Loops.{Compared, none_is_compared, one_falls, one_more_rises, all_rise}
+use Rattle.row_changes.proofs.Loops.{none_is_compared, one_falls, one_more_rises, all_rise}
 use Rattle.row_changes.proofs.keys_rise.Goals as goal
 
 pub loop-i-init : goal.loop-i-init

@@ -2,7 +2,7 @@
 -- Assumes nothing.
 use Prim.Native.Nat.{◌-◌}
 use lib.ListN.{length}
-use Rattle.row_changes.proofs.Loops.{Compared, none_is_compared, one_falls, one_more_rises, all_rise}
+use Rattle.row_changes.proofs.Loops.{Compared}
 use Rattle.row_changes.proofs.keys_rise.Given as goal
 
 abbrev pub invariant-loop-i : goal.invariant-loop-i

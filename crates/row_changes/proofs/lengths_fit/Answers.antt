@@ -1,9 +1,7 @@
 -- `row_changes::lengths_fit` meets its contract.
 -- Assumes nothing.
 use Rattle.std.proofs.Common.{rules}
-use Prim.Native.Nat.{◌-◌}
-use lib.ListN.{length}
-use Rattle.row_changes.proofs.Loops.{Tested, none_is_tested, one_is_too_long, one_more_fits, all_fit}
+use Rattle.row_changes.proofs.Loops.{none_is_tested, one_is_too_long, one_more_fits, all_fit}
 use Rattle.row_changes.proofs.lengths_fit.Goals as goal
 
 pub loop-i-init : goal.loop-i-init

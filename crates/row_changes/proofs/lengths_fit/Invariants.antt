@@ -2,7 +2,7 @@
 -- Assumes nothing.
 use Prim.Native.Nat.{◌-◌}
 use lib.ListN.{length}
-use Rattle.row_changes.proofs.Loops.{Tested, none_is_tested, one_is_too_long, one_more_fits, all_fit}
+use Rattle.row_changes.proofs.Loops.{Tested}
 use Rattle.row_changes.proofs.lengths_fit.Given as goal
 
 abbrev pub invariant-loop-i : goal.invariant-loop-i
