@@ -2,12 +2,12 @@
 ghost use Rattle.std.specs.Prelude.{◌<◌};
 
 use crate::keys::key_of;
-use crate::line::{close, say, say_reply};
+use crate::line::{close, say, say_number, say_reply};
 use crate::works::opened;
 use leaf_digest::{LeafGave, gave_out};
 use leaf_ingest::Change;
 use leaf_work::Work;
-use libc::STDOUT_FILENO;
+use std::io;
 
 // The key of value i: the first n start with 10, the others with 20.
 fn key_at(i: u8, n: u8) -> [u8; 32] {
@@ -126,143 +126,175 @@ fn body(page: &[u8]) -> usize {
 }
 
 // Says the body of a leaf, where there is one; whether it is as stated, 0 for none.
-fn say_leaf(page: &[u8], there: bool, stated: usize) -> bool {
+fn say_leaf(rt: &impl Print, page: &[u8], there: bool, stated: usize) -> io::Result<bool> {
     if !there {
-        return stated == 0;
+        return Ok(stated == 0);
     }
     let b = body(page);
-    say(b"leaf of ");
-    io::print_decimal(STDOUT_FILENO, wide(b));
-    say(b"  ");
-    b == stated
+    say(rt, b"leaf of ")?;
+    say_number(rt, wide(b))?;
+    say(rt, b"  ")?;
+    Ok(b == stated)
 }
 
 // Says the leaves that a digest gave; whether they are at most three and have these bodies, 0 for none.
-fn say_bodies(leaves: usize, area: &[u8], one: usize, two: usize, three: usize) -> bool {
+fn say_bodies(
+    rt: &impl Print,
+    leaves: usize,
+    area: &[u8],
+    one: usize,
+    two: usize,
+    three: usize,
+) -> io::Result<bool> {
     if area.len() < 12288 {
-        return false;
+        return Ok(false);
     }
-    let first = say_leaf(&area[0..4096], 0 < leaves, one);
-    let second = say_leaf(&area[4096..8192], 1 < leaves, two);
-    let third = say_leaf(&area[8192..12288], 2 < leaves, three);
-    first & (second & (third & (leaves < 4)))
+    let first = say_leaf(rt, &area[0..4096], 0 < leaves, one)?;
+    let second = say_leaf(rt, &area[4096..8192], 1 < leaves, two)?;
+    let third = say_leaf(rt, &area[8192..12288], 2 < leaves, three)?;
+    Ok(first & (second & (third & (leaves < 4))))
 }
 
 // Says what a digest gave; whether it gave leaves with these bodies, and asks for a merge where `waiting` is set.
 fn say_leaves(
+    rt: &impl Print,
     after: LeafGave,
     area: &[u8],
     one: usize,
     two: usize,
     three: usize,
     waiting: u8,
-) -> bool {
-    let right = say_bodies(after.leaves, area, one, two, three);
+) -> io::Result<bool> {
+    let right = say_bodies(rt, after.leaves, area, one, two, three)?;
     if after.waiting != 0 {
-        say(b"merge request");
+        say(rt, b"merge request")?;
     }
-    right & ((after.refusal == 0) & (after.waiting == waiting))
+    Ok(right & ((after.refusal == 0) & (after.waiting == waiting)))
 }
 
 // No base, and n values.
-fn values_trial(label: &[u8], n: u8, value: &[u8], one: usize, two: usize, three: usize) {
-    say(label);
+fn values_trial(
+    rt: &impl Print,
+    label: &[u8],
+    n: u8,
+    value: &[u8],
+    one: usize,
+    two: usize,
+    three: usize,
+) -> io::Result<()> {
+    say(rt, label)?;
     let mut area = [0u8; 16384];
     let after = digested(false, &[0u8; 1], false, n, value, n, value, &mut area);
-    close(say_leaves(after, &area, one, two, three, 0));
+    let stated = say_leaves(rt, after, &area, one, two, three, 0)?;
+    close(rt, stated)
 }
 
 // An empty base with a cutoff, and two values.
-fn merge_trial<'a>(label: &[u8], value: &'a [u8], last: &'a [u8], leaf: usize, waiting: u8) {
-    say(label);
+fn merge_trial<'a>(
+    rt: &impl Print,
+    label: &[u8],
+    value: &'a [u8],
+    last: &'a [u8],
+    leaf: usize,
+    waiting: u8,
+) -> io::Result<()> {
+    say(rt, label)?;
     let mut area = [0u8; 16384];
     let after = digested(true, &[0u8; 4096], true, 1, value, 2, last, &mut area);
-    close(say_leaves(after, &area, leaf, 0, 0, waiting));
+    let stated = say_leaves(rt, after, &area, leaf, 0, 0, waiting)?;
+    close(rt, stated)
 }
 
 // Two inserts before a base.
-fn inserts_before(page: &[u8]) -> bool {
+fn inserts_before(rt: &impl Print, page: &[u8]) -> io::Result<bool> {
     let value = [7u8; 1332];
     let mut area = [0u8; 16384];
     let after = digested(true, page, false, 2, &value, 2, &value, &mut area);
-    say_leaves(after, &area, 2732, 4092, 0, 0)
+    say_leaves(rt, after, &area, 2732, 4092, 0, 0)
 }
 
 // The page of three values of 1,330, whose keys come last, is the base of two inserts before them.
-fn inserts_before_a_base() {
-    say(b"* two of 1,332 before a base of three 1,330  ");
+fn inserts_before_a_base(rt: &impl Print) -> io::Result<()> {
+    say(rt, b"* two of 1,332 before a base of three 1,330  ")?;
     let mut area = [0u8; 16384];
     let value = [7u8; 1330];
     let base = digested(false, &[0u8; 1], false, 0, &value, 3, &value, &mut area);
-    let stated = inserts_before(&area[0..4096]);
-    close(stated & (base.leaves == 1));
+    let stated = inserts_before(rt, &area[0..4096])?;
+    close(rt, stated & (base.leaves == 1))
 }
 
 // The area has room for three pages, and four are asked for.
-fn short_area() {
-    say(b"* the same, four pages asked, area of three  ");
+fn short_area(rt: &impl Print) -> io::Result<()> {
+    say(rt, b"* the same, four pages asked, area of three  ")?;
     let mut area = [0u8; 12288];
     let value = [7u8; 1332];
     let after = digested(false, &[0u8; 1], false, 5, &value, 5, &value, &mut area);
-    say_reply(after.refusal);
-    close(after.refusal == 17);
+    say_reply(rt, after.refusal)?;
+    close(rt, after.refusal == 17)
 }
 
-pub(crate) fn run() {
+pub(crate) fn run(rt: &impl Print) -> io::Result<()> {
     values_trial(
+        rt,
         b"* three values of 1,330                      ",
         3,
         &[7u8; 1330],
         4092,
         0,
         0,
-    );
+    )?;
     values_trial(
+        rt,
         b"* three of 1,331                             ",
         3,
         &[7u8; 1331],
         2730,
         1365,
         0,
-    );
+    )?;
     values_trial(
+        rt,
         b"* four of 1,332                              ",
         4,
         &[7u8; 1332],
         2732,
         2732,
         0,
-    );
+    )?;
     values_trial(
+        rt,
         b"* five of 1,332                              ",
         5,
         &[7u8; 1332],
         2732,
         2732,
         1366,
-    );
-    short_area();
+    )?;
+    short_area(rt)?;
     values_trial(
+        rt,
         b"* six of 1,200                               ",
         6,
         &[7u8; 1200],
         3702,
         3702,
         0,
-    );
+    )?;
     merge_trial(
+        rt,
         b"* empty base with cutoff, 989 and 990        ",
         &[7u8; 989],
         &[7u8; 990],
         2047,
         0,
-    );
+    )?;
     merge_trial(
+        rt,
         b"* the same, 989 twice                        ",
         &[7u8; 989],
         &[7u8; 989],
         0,
         1,
-    );
-    inserts_before_a_base();
+    )?;
+    inserts_before_a_base(rt)
 }

@@ -2,6 +2,7 @@
 ghost use Rattle.std.specs.Prelude.{◌≡◌, ◌∷◌, replicate};
 
 use crate::line::{close, say, say_hex, say_reply};
+use std::io;
 
 // A key that starts with x, zeros after.
 pub(crate) fn key_from(x: u8) -> [u8; 32]
@@ -33,51 +34,61 @@ fn zeros_after(key: &[u8; 32]) -> bool {
 }
 
 // A refusal, or the byte with which the separator starts.
-fn say_separator(reply: u8, first: u8) {
-    if reply == 0 {
-        say(b"starts ");
-        say_hex(first);
-    } else {
-        say_reply(reply);
+fn say_separator(rt: &impl Print, reply: u8, first: u8) -> io::Result<()> {
+    if reply != 0 {
+        return say_reply(rt, reply);
     }
+    say(rt, b"starts ")?;
+    say_hex(rt, first)
 }
 
 // `separate` of keys that start with a and b: refused by `refusal` (0: accepted), and what it was lent then starts with x.
-fn separate_trial(label: &[u8], a: u8, b: u8, refusal: u8, x: u8) {
-    say(label);
+fn separate_trial(
+    rt: &impl Print,
+    label: &[u8],
+    a: u8,
+    b: u8,
+    refusal: u8,
+    x: u8,
+) -> io::Result<()> {
+    say(rt, label)?;
     let mut out = key_from(0xee);
     let reply = bit_ops::separate(&key_from(a), &key_from(b), &mut out);
-    say_separator(reply, out[0]);
-    close((reply == refusal) & ((out[0] == x) & zeros_after(&out)));
+    say_separator(rt, reply, out[0])?;
+    close(rt, (reply == refusal) & ((out[0] == x) & zeros_after(&out)))
 }
 
-pub(crate) fn run() {
+pub(crate) fn run(rt: &impl Print) -> io::Result<()> {
     separate_trial(
+        rt,
         b"* separate, keys starting 10 and 13          ",
         0x10,
         0x13,
         0,
         0x12,
-    );
+    )?;
     separate_trial(
+        rt,
         b"* separate, keys starting 00 and 80          ",
         0x00,
         0x80,
         0,
         0x80,
-    );
+    )?;
     separate_trial(
+        rt,
         b"  separate, the other way round, 13 and 10   ",
         0x13,
         0x10,
         0,
         0x10,
-    );
+    )?;
     separate_trial(
+        rt,
         b"  separate, equal keys                       ",
         0x10,
         0x10,
         11,
         0xee,
-    );
+    )
 }

@@ -8,15 +8,18 @@ mod line;
 mod pages;
 mod works;
 
-fn main() {
+use std::io;
+
+fn main(rt: HostRuntime) -> io::Result<()> {
     line::say(
+        &rt,
         b"Document 01, bench trials (* proved as well, as a theorem about the definitions)\n\n",
-    );
-    keys::run();
-    pages::run();
-    works::run();
-    digests::run();
-    line::say(b"\nDocument 02\n\n");
-    works::reports();
-    pages::positions();
+    )?;
+    keys::run(&rt)?;
+    pages::run(&rt)?;
+    works::run(&rt)?;
+    digests::run(&rt)?;
+    line::say(&rt, b"\nDocument 02\n\n")?;
+    works::reports(&rt)?;
+    pages::positions(&rt)
 }

@@ -1,8 +1,8 @@
 // The trials of leaf pages.
 ghost use Rattle.std.specs.Prelude.{◌<◌};
 
-use crate::line::{close, say, say_hex, say_reply};
-use libc::STDOUT_FILENO;
+use crate::line::{close, say, say_hex, say_number, say_reply};
+use std::io;
 
 fn put(page: &mut [u8; 4096], at: usize, x: u8) {
     if at < 4096 {
@@ -39,24 +39,24 @@ pub(crate) fn flagged_pair() -> [u8; 4096] {
     page
 }
 
-fn check_trial(label: &[u8], page: &[u8; 4096], refusal: u8) {
-    say(label);
+fn check_trial(rt: &impl Print, label: &[u8], page: &[u8; 4096], refusal: u8) -> io::Result<()> {
+    say(rt, label)?;
     let reply = leaf_node::check(page);
-    say_reply(reply);
-    close(reply == refusal);
+    say_reply(rt, reply)?;
+    close(rt, reply == refusal)
 }
 
 // A page of n records.
-fn count_trial(label: &[u8], n: u8, refusal: u8) {
-    check_trial(label, &empty_values(n), refusal);
+fn count_trial(rt: &impl Print, label: &[u8], n: u8, refusal: u8) -> io::Result<()> {
+    check_trial(rt, label, &empty_values(n), refusal)
 }
 
 // A page of one record whose value starts at byte 256 * 10 + low.
-fn value_trial(label: &[u8], low: u8, refusal: u8) {
+fn value_trial(rt: &impl Print, label: &[u8], low: u8, refusal: u8) -> io::Result<()> {
     let mut page = empty_values(1);
     page[34] = low;
     page[35] = 0x0a;
-    check_trial(label, &page, refusal);
+    check_trial(rt, label, &page, refusal)
 }
 
 // What building a page answers, and the number bytes of its first record.
@@ -83,47 +83,79 @@ fn is_built(page: Built, high: u8) -> bool {
 }
 
 // The number bytes of an empty value, by both ways of building.
-fn number_trial(label: &[u8], high: u8) {
-    say(label);
+fn number_trial(rt: &impl Print, label: &[u8], high: u8) -> io::Result<()> {
+    say(rt, label)?;
     let mut page = empty_values(2);
     page[69] = high;
     let cell = build(&page, 2);
     let chunk = build(&page, 1);
-    say_hex(cell.low);
-    say(b" ");
-    say_hex(cell.high);
-    close(is_built(cell, high) & is_built(chunk, high));
+    say_hex(rt, cell.low)?;
+    say(rt, b" ")?;
+    say_hex(rt, cell.high)?;
+    close(rt, is_built(cell, high) & is_built(chunk, high))
 }
 
 // Where a key that no record has would stand among n records whose first key bytes are 0 to n - 1.
-fn position_trial(label: &[u8], n: u8, first: u8, position: usize) {
-    say(label);
+fn position_trial(
+    rt: &impl Print,
+    label: &[u8],
+    n: u8,
+    first: u8,
+    position: usize,
+) -> io::Result<()> {
+    say(rt, label)?;
     let mut key = [0u8; 32];
     key[0] = first;
     key[31] = 1;
     let reply = leaf_page::get(&empty_values(n), &key);
-    say(b"absent, position ");
-    io::print_decimal(STDOUT_FILENO, reply.position as u64);
-    close((reply.refusal == 0) & ((reply.absent == 1) & (reply.position == position)));
+    say(rt, b"absent, position ")?;
+    say_number(rt, reply.position as u64)?;
+    close(
+        rt,
+        (reply.refusal == 0) & ((reply.absent == 1) & (reply.position == position)),
+    )
 }
 
-pub(crate) fn run() {
-    number_trial(b"* one empty value, number bytes              ", 0x10);
-    number_trial(b"* the same, flagged                          ", 0x90);
-    count_trial(b"  page with n 120                            ", 120, 0);
-    count_trial(b"  page with n 121                            ", 121, 2);
-    value_trial(b"  page value of 1,332                        ", 0xcc, 0);
-    value_trial(b"  page value of 1,333                        ", 0xcb, 4);
+pub(crate) fn run(rt: &impl Print) -> io::Result<()> {
+    number_trial(rt, b"* one empty value, number bytes              ", 0x10)?;
+    number_trial(rt, b"* the same, flagged                          ", 0x90)?;
+    count_trial(rt, b"  page with n 120                            ", 120, 0)?;
+    count_trial(rt, b"  page with n 121                            ", 121, 2)?;
+    value_trial(
+        rt,
+        b"  page value of 1,332                        ",
+        0xcc,
+        0,
+    )?;
+    value_trial(
+        rt,
+        b"  page value of 1,333                        ",
+        0xcb,
+        4,
+    )
 }
 
 // Document 02, M-102.
-pub(crate) fn positions() {
-    position_trial(b"M-102: absent key in an empty page           ", 0, 5, 0);
-    position_trial(b"M-102: absent key between records 5 and 6    ", 120, 5, 6);
+pub(crate) fn positions(rt: &impl Print) -> io::Result<()> {
     position_trial(
+        rt,
+        b"M-102: absent key in an empty page           ",
+        0,
+        5,
+        0,
+    )?;
+    position_trial(
+        rt,
+        b"M-102: absent key between records 5 and 6    ",
+        120,
+        5,
+        6,
+    )?;
+    position_trial(
+        rt,
         b"M-102: absent key behind 120 records         ",
         120,
         200,
         120,
-    );
+    )
 }

@@ -6,6 +6,7 @@ use leaf_ingest::Change;
 use leaf_open::Updated;
 use leaf_take::{LeafReport, report_out};
 use leaf_work::Work;
+use std::io;
 
 pub(crate) fn no_work() -> Work {
     let none = [0u8; 32];
@@ -61,22 +62,22 @@ fn opens(rows: &mut [[usize; 5]], keys: &mut [[u8; 32]]) -> u8 {
     opened(false, false, &[0u8; 1], false, rows, keys, &mut store).refusal
 }
 
-fn list_of_120() {
-    say(b"  list of 120                                ");
+fn list_of_120(rt: &impl Print) -> io::Result<()> {
+    say(rt, b"  list of 120                                ")?;
     let mut rows = [[0usize; 5]; 120];
     let mut keys = [[0u8; 32]; 120];
     let refusal = opens(&mut rows, &mut keys);
-    say_reply(refusal);
-    close(refusal == 7);
+    say_reply(rt, refusal)?;
+    close(rt, refusal == 7)
 }
 
-fn list_of_121() {
-    say(b"  list of 121                                ");
+fn list_of_121(rt: &impl Print) -> io::Result<()> {
+    say(rt, b"  list of 121                                ")?;
     let mut rows = [[0usize; 5]; 121];
     let mut keys = [[0u8; 32]; 121];
     let refusal = opens(&mut rows, &mut keys);
-    say_reply(refusal);
-    close(refusal == 0);
+    say_reply(rt, refusal)?;
+    close(rt, refusal == 0)
 }
 
 // An opening, with a base where `based` is set, and an ingest.
@@ -100,8 +101,8 @@ fn ingested(
 }
 
 // A new value in a work without a base.
-fn value_trial(label: &[u8], value: &[u8], refusal: u8) {
-    say(label);
+fn value_trial(rt: &impl Print, label: &[u8], value: &[u8], refusal: u8) -> io::Result<()> {
+    say(rt, label)?;
     let after = ingested(
         false,
         false,
@@ -110,21 +111,27 @@ fn value_trial(label: &[u8], value: &[u8], refusal: u8) {
         Change::Put(false),
         value,
     );
-    say_reply(after.refusal);
-    close(after.refusal == refusal);
+    say_reply(rt, after.refusal)?;
+    close(rt, after.refusal == refusal)
 }
 
-fn say_report(reported: u8) {
+fn say_report(rt: &impl Print, reported: u8) -> io::Result<()> {
     if reported == 0 {
-        say(b"nothing reported");
+        say(rt, b"nothing reported")
     } else {
-        say(b"reported");
+        say(rt, b"reported")
     }
 }
 
 // A base of two flagged records, of which the one with this key is deleted.
-fn report_trial(label: &[u8], every: bool, first: u8, reported: u8) {
-    say(label);
+fn report_trial(
+    rt: &impl Print,
+    label: &[u8],
+    every: bool,
+    first: u8,
+    reported: u8,
+) -> io::Result<()> {
+    say(rt, label)?;
     let page = flagged_pair();
     let after = ingested(
         every,
@@ -134,39 +141,55 @@ fn report_trial(label: &[u8], every: bool, first: u8, reported: u8) {
         Change::Delete,
         &[0u8; 1],
     );
-    say_report(after.reported);
-    close((after.refusal == 0) & (after.reported == reported));
+    say_report(rt, after.reported)?;
+    close(rt, (after.refusal == 0) & (after.reported == reported))
 }
 
-pub(crate) fn run() {
-    list_of_120();
-    list_of_121();
+pub(crate) fn run(rt: &impl Print) -> io::Result<()> {
+    list_of_120(rt)?;
+    list_of_121(rt)?;
     value_trial(
+        rt,
         b"  new value of 1,332                         ",
         &[7u8; 1332],
         0,
-    );
+    )?;
     value_trial(
+        rt,
         b"  new value of 1,333                         ",
         &[7u8; 1333],
         12,
-    );
+    )?;
     report_trial(
+        rt,
         b"  flagged first base record deleted          ",
         false,
         0,
         0,
-    );
+    )?;
     report_trial(
+        rt,
         b"  flagged second one deleted first           ",
         false,
         1,
         1,
-    );
+    )
 }
 
 // Document 02, M-100: the same where every dropped flagged record is reported.
-pub(crate) fn reports() {
-    report_trial(b"M-100: flagged first base record deleted     ", true, 0, 1);
-    report_trial(b"M-100: flagged second one deleted first      ", true, 1, 1);
+pub(crate) fn reports(rt: &impl Print) -> io::Result<()> {
+    report_trial(
+        rt,
+        b"M-100: flagged first base record deleted     ",
+        true,
+        0,
+        1,
+    )?;
+    report_trial(
+        rt,
+        b"M-100: flagged second one deleted first      ",
+        true,
+        1,
+        1,
+    )
 }
