@@ -1,6 +1,9 @@
 // `separate` and `prefix_len` against records of 99 bytes: a, b, the reply, the shared bits, the separator.
 use crate::bytes::{byte, key, number, same_key};
+use crate::reading::read_full;
 use crate::score::Score;
+use std::io;
+use std::io::Read;
 
 // A refused call leaves the lent key, here zeros, as it was; so the record has zeros too.
 fn passes(v: &[u8; 99]) -> bool {
@@ -14,11 +17,11 @@ fn passes(v: &[u8; 99]) -> bool {
 }
 
 // The next record of the file.
-pub(crate) fn next(fd: i32, t: Score) -> Score {
+pub(crate) fn next<R: Read>(file: &mut R, t: Score) -> io::Result<Score> {
     let mut v = [0u8; 99];
-    let n = io::read_full(fd, &mut v);
+    let n = read_full(file, &mut v)?;
     if n != 99 {
-        return t.end(n);
+        return Ok(t.end(n));
     }
-    t.count(passes(&v))
+    Ok(t.count(passes(&v)))
 }

@@ -3,8 +3,11 @@
 ghost use Rattle.std.specs.Prelude.{◌≤◌};
 
 use crate::bytes::{byte, key, number, same, same_key};
+use crate::reading::read_full;
 use crate::score::Score;
 use leaf_page::LeafValue;
+use std::io;
+use std::io::Read;
 
 const QUESTIONS: usize = 24;
 
@@ -62,14 +65,14 @@ fn ask_all(page: &[u8], v: &[u8], t: Score) -> Score {
 }
 
 // The next record of the file.
-pub(crate) fn next(fd: i32, t: Score) -> Score {
+pub(crate) fn next<R: Read>(file: &mut R, t: Score) -> io::Result<Score> {
     let mut v = [0u8; 5969];
-    let n = io::read_full(fd, &mut v);
+    let n = read_full(file, &mut v)?;
     if n != 5969 {
-        return t.end(n);
+        return Ok(t.end(n));
     }
     let whole = &v[..];
-    ask_all(&whole[0..4096], whole, t)
+    Ok(ask_all(&whole[0..4096], whole, t))
 }
 
 // Whether the page that is built of the record's range is the recorded one.
@@ -83,12 +86,12 @@ fn same_build(v: &[u8], page: &[u8]) -> bool {
 }
 
 // The next record of a page that is built.
-pub(crate) fn next_build(fd: i32, t: Score) -> Score {
+pub(crate) fn next_build<R: Read>(file: &mut R, t: Score) -> io::Result<Score> {
     let mut v = [0u8; 8198];
-    let n = io::read_full(fd, &mut v);
+    let n = read_full(file, &mut v)?;
     if n != 8198 {
-        return t.end(n);
+        return Ok(t.end(n));
     }
     let whole = &v[..];
-    t.count(same_build(whole, &whole[0..4096]))
+    Ok(t.count(same_build(whole, &whole[0..4096])))
 }

@@ -5,10 +5,13 @@ ghost use Rattle.replay.specs.Answers.{page_lent, same_report, same_digest, only
 ghost use Rattle.replay.specs.Counts.{Counted};
 
 use crate::bytes::{HELD, byte, held, key, number, same_key, same_part};
+use crate::reading::read_full;
 use crate::score::Score;
 use leaf_digest::{Digested, LeafGave, gave_out};
 use leaf_take::{LeafReport, change_of, report_out};
 use leaf_work::Work;
+use std::io;
+use std::io::Read;
 
 const RECORD: usize = 4205;
 
@@ -249,15 +252,26 @@ fn leaf(v: &[u8], given: Given, area: &[u8], tickets: &[u8]) -> Given
 }
 
 // A record that isn't whole ends before its page does, and so is wrong.
-fn next_leaf(fd: i32, given: Given, area: &[u8], tickets: &[u8]) -> Given {
+fn next_leaf<R: Read>(
+    file: &mut R,
+    given: Given,
+    area: &[u8],
+    tickets: &[u8],
+) -> io::Result<Given> {
     let mut record = [0u8; RECORD];
-    let n = io::read_full(fd, &mut record);
+    let n = read_full(file, &mut record)?;
     let whole = &record[..];
-    leaf(&whole[..n], given, area, tickets)
+    Ok(leaf(&whole[..n], given, area, tickets))
 }
 
 // The leaves of a digest that gave n.
-fn leaves(fd: i32, n: usize, t: Score, area: &[u8], tickets: &[u8]) -> Score {
+fn leaves<R: Read>(
+    file: &mut R,
+    n: usize,
+    t: Score,
+    area: &[u8],
+    tickets: &[u8],
+) -> io::Result<Score> {
     let mut given = Given {
         leaf: 0,
         ticket: 0,
@@ -265,26 +279,26 @@ fn leaves(fd: i32, n: usize, t: Score, area: &[u8], tickets: &[u8]) -> Score {
     };
     let mut i = 0;
     while i < n {
-        given = next_leaf(fd, given, area, tickets);
+        given = next_leaf(file, given, area, tickets)?;
         i += 1;
     }
-    given.score
+    Ok(given.score)
 }
 
 // The answer of a digest, and the leaves behind it.
-fn digest_counted(
-    fd: i32,
+fn digest_counted<R: Read>(
+    file: &mut R,
     v: &[u8],
     t: Score,
     after: Digested,
     area: &[u8],
     tickets: &[u8],
-) -> Score {
+) -> io::Result<Score> {
     let reply = after.reply;
     let cutoff = after.cutoff;
     let given = same_digest(v, gave_out(reply, cutoff));
     let right = given & (lendable(v) & only_given(v, area, tickets));
-    leaves(fd, number(v, NUMBER), t.count(right), area, tickets)
+    leaves(file, number(v, NUMBER), t.count(right), area, tickets)
 }
 
 fn at_most(n: usize, most: usize) -> usize
@@ -326,15 +340,15 @@ fn digest_within(
 }
 
 // A digest whose buffers hold the same in every byte before.
-fn digest(
-    fd: i32,
+fn digest<R: Read>(
+    file: &mut R,
     v: &[u8],
     run: Run,
     rows: &mut [[usize; 5]],
     keys: &mut [[u8; 32]],
     store: &mut [u8],
     page: &[u8],
-) -> Run {
+) -> io::Result<Run> {
     let mut area = [HELD; AREA];
     let mut tickets = [HELD; TICKET_BYTES];
     let after = digest_within(
@@ -349,11 +363,11 @@ fn digest(
         at_most(number(v, TICKETS), TICKET_BYTES),
     );
     let work = after.work;
-    let score = run.score;
-    Run {
+    let score = digest_counted(file, v, run.score, after, &area, &tickets)?;
+    Ok(Run {
         work: work,
-        score: digest_counted(fd, v, score, after, &area, &tickets),
-    }
+        score: score,
+    })
 }
 
 // ---- the records
@@ -391,41 +405,41 @@ fn called(
 }
 
 // A record by its kind.
-fn replayed(
-    fd: i32,
+fn replayed<R: Read>(
+    file: &mut R,
     v: &[u8],
     run: Run,
     rows: &mut [[usize; 5]],
     keys: &mut [[u8; 32]],
     store: &mut [u8],
     page: &mut [u8],
-) -> Run {
+) -> io::Result<Run> {
     match byte(v, 0) {
-        0 => lend(v, run, page),
-        3 => digest(fd, v, run, rows, keys, store, page),
-        _ => called(v, run, rows, keys, store, page),
+        0 => Ok(lend(v, run, page)),
+        3 => digest(file, v, run, rows, keys, store, page),
+        _ => Ok(called(v, run, rows, keys, store, page)),
     }
 }
 
 // The next record of the file, with the leaves behind it.
-fn next(
-    fd: i32,
+fn next<R: Read>(
+    file: &mut R,
     run: Run,
     rows: &mut [[usize; 5]],
     keys: &mut [[u8; 32]],
     store: &mut [u8],
     page: &mut [u8],
-) -> Run {
+) -> io::Result<Run> {
     let mut record = [0u8; RECORD];
-    let n = io::read_full(fd, &mut record);
+    let n = read_full(file, &mut record)?;
     if n != RECORD {
-        return run.end(n);
+        return Ok(run.end(n));
     }
-    replayed(fd, &record, run, rows, keys, store, page)
+    replayed(file, &record, run, rows, keys, store, page)
 }
 
 // All records of the file, since one goes on with what the one before it left. Nothing tells that a file ends, so the turns are counted.
-pub(crate) fn all(fd: i32, t: Score) -> Score {
+pub(crate) fn all<R: Read>(file: &mut R, t: Score) -> io::Result<Score> {
     let mut rows = [[0usize; 5]; 121];
     let mut keys = [[0u8; 32]; 121];
     let mut store = [0u8; 9000];
@@ -433,8 +447,8 @@ pub(crate) fn all(fd: i32, t: Score) -> Score {
     let mut run = Run::new(t);
     let mut turns = u64::MAX;
     while turns > 0 && run.score.more {
-        run = next(fd, run, &mut rows, &mut keys, &mut store, &mut page);
+        run = next(file, run, &mut rows, &mut keys, &mut store, &mut page)?;
         turns -= 1;
     }
-    run.score
+    Ok(run.score)
 }
