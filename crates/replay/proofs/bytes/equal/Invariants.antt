@@ -1,10 +1,9 @@
 -- `replay::bytes::equal` meets its contract.
 -- Assumes nothing.
-use mathlib.Core.Path.{◌≡◌, refl}
+use mathlib.Core.Path.{◌≡◌}
 use Prim.Native.Nat.{◌-◌}
 use lib.ListN.{length, drop}
 use Rattle.leaf_work.specs.Tests.{same_bytes}
-use Rattle.replay.proofs.Parts.{one_byte_more, a_byte_differs, no_byte_differs}
 use Rattle.replay.proofs.bytes.equal.Given as goal
 
 abbrev pub invariant-loop-i : goal.invariant-loop-i

@@ -1,11 +1,10 @@
 -- `replay::bytes::held` meets its contract. The invariant: the bytes from `i` on decide.
 -- Assumes nothing.
-use mathlib.Core.Path.{◌≡◌, refl}
+use mathlib.Core.Path.{◌≡◌}
 use Prim.Native.Nat.{◌-◌}
 use lib.ListN.{length, drop}
 use Rattle.leaf_work.specs.Tests.{every}
 use Rattle.replay.specs.Parts.{is_held}
-use Rattle.replay.proofs.Held.{one_more_is_held, one_is_not_held, all_are_held}
 use Rattle.replay.proofs.bytes.held.Given as goal
 
 abbrev pub invariant-loop-i : goal.invariant-loop-i
