@@ -50,6 +50,7 @@ fn unopened(rt: &impl Eprint, path: &str, error: io::Error) -> io::Result<Score>
     Ok(Score::new().count(false))
 }
 
+// The score of a file.
 fn replay(rt: &(impl Files + Eprint), path: &str, kind: Kind) -> io::Result<Score> {
     match File::open(rt, path) {
         Ok(mut file) => records(kind, &mut file),
