@@ -86,7 +86,7 @@ fn find_library(root: &Path) {
     let library = folder.join("libleaf_updater.a");
     println!("cargo:rerun-if-changed={}", library.display());
     if !library.exists() {
-        fail("no target/staticlib/libleaf_updater.a; run `rt staticlib leaf_updater` first");
+        fail("no target/staticlib/libleaf_updater.a; run `tools/library` first");
     }
     println!("cargo:rustc-link-search=native={}", folder.display());
     println!("cargo:rustc-link-lib=static=leaf_updater");
