@@ -64,10 +64,10 @@ class Edit:
 
 
 def edits_of(root):
-    """All edits: crates/CRATE/must-fail/*.edit, and below it in a folder named after the lower crate that they change."""
+    """All edits: crates/CRATE/must-fail/*.edit, and crates/CRATE/above/LOWER/*.edit, which change the lower crate."""
     for path in sorted(root.glob("crates/*/must-fail/*.edit")):
         yield read_edit(path, path.parts[-3], path.parts[-3])
-    for path in sorted(root.glob("crates/*/must-fail/*/*.edit")):
+    for path in sorted(root.glob("crates/*/above/*/*.edit")):
         yield read_edit(path, path.parts[-4], path.parts[-2])
 
 
@@ -109,6 +109,27 @@ def apply(folder, answers):
             if text.count(change.old) != 1:
                 raise BadEdit(f"{answer.name}: {change.file} has {text.count(change.old)} times, not once: {change.old}")
             path.write_text(text.replace(change.old, change.new))
+
+
+def functions_of(root, edit, answer):
+    """The functions that an answer of code changes."""
+    sources = {c.file: (root / "crates" / edit.changed / c.file).read_text() for c in answer.changes}
+    return {function_at(sources[c.file], c.old) for c in answer.changes}
+
+
+def apart(root, edit):
+    """The answers of an edit in groups, each of which changes a function once."""
+    groups = []
+    for answer in edit.answers:
+        changed = functions_of(root, edit, answer)
+        for group in groups:
+            if not group[0] & changed:
+                group[0].update(changed)
+                group[1].append(answer)
+                break
+        else:
+            groups.append((changed, [answer]))
+    return [answers for _, answers in groups]
 
 
 def function_at(source, old):

@@ -4,10 +4,10 @@ import re
 from dataclasses import dataclass
 
 ERROR = re.compile(r"^(?P<path>\S+):\d+:\d+: error: `(?P<declaration>[^`]+)`: ")
-# a function without a proof file, which the prover's own search does not close
-UNPROVED = re.compile(r"^fn \w+::(?P<function>\w+): no proof: .*`search` does not close (?P<needs>.*)")
-# what rests on another declaration, or on a need that the changed code no longer has, says nothing of the fact itself
-MISFIT = re.compile(r"was not admitted|has no `Need-")
+# goals without an answer, which the prover's own search does not close
+UNPROVED = re.compile(r"^fn \w+::(?P<function>\w+): .*?`search` did not prove (?P<needs>[^;]*)")
+# what rests on another declaration, or on what the changed code no longer has, says nothing of the fact itself
+MISFIT = re.compile(r"was not admitted|which was rejected|has no field|has no `|is not in scope")
 # nor does a refusal that is over once another definition is unfolded, as a note behind it says
 UNFOLDED = "of this declaration was admitted by the kernel"
 

@@ -1,13 +1,19 @@
 """The rule that every wrong answer is held to. docs/PROVING.md has it in words."""
 
+import os
 from concurrent.futures import ThreadPoolExecutor
 from dataclasses import dataclass
 from pathlib import Path
-from tempfile import TemporaryDirectory
 
-from . import above, logs, runs, scratch
-from .edits import BadEdit, apply, edits_of, function_at
+import kit
+
+from . import logs, runs
+from .edits import BadEdit, apart, edits_of, functions_of
 from .rows import is_computed_row
+from .tries import Tries
+
+# how many crates are tried at a time
+CRATES = min(4, len(os.sched_getaffinity(0)))
 
 
 @dataclass
@@ -23,23 +29,29 @@ class Complaint:
 
 
 def check(root, only=()):
-    """The complaints about all edits of a repository, or about those of some crates; `rt must-fail` has been run."""
+    """The complaints about all edits of a repository, or about those of some crates."""
     edits = [e for e in edits_of(root) if not only or e.crate in only]
     if not edits:
         raise BadEdit("no wrong answer was checked")
-    found = []
-    for edit in edits:
-        found += form(root, edit)
+    found = [complaint for edit in edits for complaint in form(root, edit)]
     if found:
         return found
-    with above.Above(root) as upper:
-        for edit in edits:
-            found += refusal(root, edit, upper)
-    crates = dict.fromkeys(e.crate for e in edits)
-    with ThreadPoolExecutor(2) as pool:
-        for complaints in pool.map(lambda crate: shown(root, [e for e in edits if e.crate == crate]), crates):
+    by_crate = {crate: [e for e in edits if e.crate == crate] for crate in dict.fromkeys(e.crate for e in edits)}
+    with ThreadPoolExecutor(CRATES) as pool:
+        for complaints in pool.map(lambda crate: of_crate(root, crate, by_crate[crate]), by_crate):
             found += complaints
     return found
+
+
+def of_crate(root, crate, edits):
+    """Complaints about the edits of one crate."""
+    try:
+        with Tries(root, crate) as tries:
+            found = [complaint for edit in edits for complaint in refusal(root, edit, tries)]
+    except kit.Failed as failed:
+        edit = edits[0]
+        return [Complaint(edit.path, 1, edit.label, str(failed), f"have `rt ci {crate}` pass first")]
+    return found + shown(root, edits)
 
 
 # ---- what an edit says
@@ -52,7 +64,6 @@ def form(root, edit):
     for answer in edit.answers:
         for reason, mend in amiss(root, edit, answer):
             yield Complaint(edit.path, answer.line, answer.name, reason, mend)
-    yield from shared_places(edit)
 
 
 def amiss(root, edit, answer):
@@ -68,7 +79,7 @@ def amiss_in_code(root, edit, answer):
         yield "it changes the code of a lower crate, which the upper one does not see", "change a definition of it"
     if not answer.shown:
         yield "nothing shows that it is wrong", "write `shown: EXPRESSION`, which holds of the crate and not with this answer"
-    functions = {function_at((root / "crates" / edit.changed / c.file).read_text(), c.old) for c in answer.changes}
+    functions = functions_of(root, edit, answer)
     if functions != {p.file for p in answer.places}:
         yield f"it changes {', '.join(sorted(functions))}, and another proof is to refuse it", "name the function that it changes"
 
@@ -86,34 +97,35 @@ def is_row(root, edit, place):
     return is_computed_row(root / "crates" / edit.crate, place.file, place.declaration)
 
 
-def shared_places(edit):
-    """Complaints about places that two answers name, one of which may be refused for the other."""
-    taken = []
-    for answer in edit.answers:
-        for place in answer.places:
-            if any(place.file == p.file and (place.declaration == p.declaration or not place.declaration or not p.declaration) for p in taken):
-                yield Complaint(edit.path, place.line, answer.name, f"another answer of this edit is refused in {place} too", "name the declaration, or keep one of them")
-        taken += answer.places
-
-
 # ---- what the prover said
 
 
-def refusal(root, edit, upper):
-    """Complaints about places that did not refuse their answer, or not by a fact that no longer holds."""
+def refusal(root, edit, tries):
+    """Complaints about places that did not refuse their answer, or not by a fact that no longer holds. An answer is tried beside those that change
+    other functions, and by itself where its place does not refuse it there: a function's own goals may wait for those of what it calls."""
     first = edit.answers[0]
     try:
-        log = own_log(root, edit) if edit.changed == edit.crate else upper.refusal(edit)
+        if edit.changed != edit.crate:
+            log = tries.log_above(edit)
+            if not log:
+                return [Complaint(edit.path, first.line, first.name, f"{edit.changed} is no longer proved with it", "keep to a definition that its own crate proves; what that crate refuses is an edit of its own")]
+            return complaints(root, edit, edit.answers, log)
+        found = []
+        for group in apart(root, edit):
+            amiss = complaints(root, edit, group, tries.log(group))
+            if amiss and len(group) > 1:
+                amiss = [c for answer in group for c in complaints(root, edit, [answer], tries.log([answer]))]
+            found += amiss
+        return found
     except BadEdit as bad:
         return [Complaint(edit.path, first.line, first.name, str(bad), "the old text stands in its file once")]
-    if log is None and edit.changed == edit.crate:
-        return [Complaint(edit.path, first.line, first.name, "there is no log of this edit on the crate as it is", f"run `rt must-fail {edit.crate}` first")]
-    if log is None:
-        return [Complaint(edit.path, first.line, first.name, f"{edit.changed} is no longer proved with it", "keep to a definition that its own crate proves; what that crate refuses is an edit of its own")]
+
+
+def complaints(root, edit, answers, log):
     errors = logs.errors_of(log)
     return [
         Complaint(edit.path, place.line, answer.name, f"{place} refused it {why}", "name a place whose fact no longer holds, or drop it: it may be a right answer, spelt otherwise")
-        for answer in edit.answers
+        for answer in answers
         for place in answer.places
         if (why := unrefused(logs.at(errors, place), is_row(root, edit, place)))
     ]
@@ -124,22 +136,6 @@ def unrefused(there, of_row):
     if any(e.is_computed() if of_row else e.is_fact() for e in there):
         return ""
     return "only because the proof no longer fits" if there else "not at all"
-
-
-def own_log(root, edit):
-    """The log of an edit of the crate itself, if it is that of the crate and the edit as they are."""
-    tried = root / "target" / "must-fail" / edit.crate / edit.label
-    with TemporaryDirectory() as folder:
-        scratch.copy_crates(root, Path(folder), [edit.crate], above.PARTS)
-        crate = Path(folder) / "crates" / edit.crate
-        apply(crate, edit.answers)
-        same = all((tried / p).is_file() and (tried / p).read_bytes() == (crate / p).read_bytes() for p in files_of(crate))
-    log = tried / ".log"
-    return log.read_text() if same and log.is_file() else None
-
-
-def files_of(folder):
-    return [p.relative_to(folder) for p in folder.rglob("*") if p.is_file()]
 
 
 # ---- what a run shows
