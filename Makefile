@@ -5,40 +5,34 @@
 
 SECONDS_OF_RANDOM ?= 10
 SEED ?= 1
-# how many crates and edits rt has under way: more than there are processors, since it waits for all of them before it starts more
-export RT_JOBS ?= 4
 
 # a step: its name and its command; says how long it took
 step = @start=$$(date +%s) && echo "== $(1)" && $(2) && echo "== $(1): $$(($$(date +%s) - start)) s"
 
-.PHONY: run test bench growth layout claims header proved refused library walks symbols examples refusals compare
+.PHONY: run test bench growth claims header proved refused library walks symbols examples refusals compare
 
 run:
-	$(call step,trials proved with all that it stands on (log: build/run.log),tools/quietly build/run.log rt check trials)
-	@target/bin/trials
+	$(call step,trials proved with all that it stands on (log: build/run.log),tools/quietly build/run.log sh -c 'cd crates/trials && rt run > /dev/null')
+	@crates/trials/out/trials
 	@echo && tools/melt-sheet
 
-# `rt ci` comes before all that needs a proved crate, since it removes target/: what it has proved is not proved again behind it. Its 'N passed, 0 failed' is said again as the
-# last line.
-test: layout claims header proved refused library walks symbols examples refusals compare
+# `rt ci` comes before all that needs a proved crate: what it has proved is not proved again behind it. It refuses files that are not in rt fmt's layout. Its 'N passed, 0 failed'
+# is said again as the last line.
+test: claims header proved refused library walks symbols examples refusals compare
 	@tail -n 1 build/ci.log
-
-layout:
-	$(call step,layout of the source,rt fmt --check)
 
 claims:
 	$(call step,names and paths in docs/CLAIMS.md,tools/check-claims)
 
 proved:
-	$(call step,rt ci: every crate from nothing; every must-fail edit; every program (log: build/ci.log),tools/quietly build/ci.log rt ci)
+	$(call step,rt ci: every crate; every must-fail edit; every program (log: build/ci.log),tools/proved)
 
-# behind `rt ci`, whose logs it reads
+# what earlier runs on this machine found of the same files is not tried again
 refused:
-	$(call step,each wrong answer is wrong and was refused for that,tools/check-refusals)
+	$(call step,each wrong answer is wrong and is refused for that,tools/check-refusals)
 
-# `rt staticlib` alone would prove what the library stands on one crate after the other
 library:
-	$(call step,static library,tools/quietly build/library.log sh -c 'rt check $$(sed -n "s/^leaf_updater: //p" crates.txt) && rt staticlib leaf_updater')
+	$(call step,static library,tools/quietly build/library.log tools/library)
 
 # behind the library, since `rt mir` proves what a crate stands on
 walks: library
