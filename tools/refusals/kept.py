@@ -2,6 +2,7 @@
 
 import hashlib
 import os
+from contextlib import suppress
 from functools import cache
 from pathlib import Path
 from tempfile import NamedTemporaryFile
@@ -36,8 +37,10 @@ def kept(make, *rests_on):
     if path.is_file():
         return path.read_text()
     text = make()
-    FOLDER.mkdir(parents=True, exist_ok=True)
-    with NamedTemporaryFile("w", dir=FOLDER, delete=False) as written:
-        written.write(text)
-    os.replace(written.name, path)
+    # (where it can't be kept, it is made again)
+    with suppress(OSError):
+        FOLDER.mkdir(parents=True, exist_ok=True)
+        with NamedTemporaryFile("w", dir=FOLDER, delete=False) as written:
+            written.write(text)
+        os.replace(written.name, path)
     return text
