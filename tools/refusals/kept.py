@@ -16,7 +16,7 @@ FOLDER = Path(os.environ.get("XDG_CACHE_HOME") or Path.home() / ".cache") / "mis
 def of_tools():
     tools = Path(__file__).resolve().parent
     found = hashlib.sha256(kit.version().encode())
-    for path in [tools.parent / "kit.py", *sorted(tools.glob("*.py"))]:
+    for path in [tools.parent / "kit.py", *(tools / f"{name}.py" for name in ("edits", "kept", "runs", "tries"))]:
         found.update(path.read_bytes())
     return found.hexdigest()
 

@@ -113,8 +113,9 @@ def refusal(root, edit, tries):
         found = []
         for group in apart(root, edit):
             amiss = complaints(root, edit, group, tries.log(group))
-            if amiss and len(group) > 1:
-                amiss = [c for answer in group for c in complaints(root, edit, [answer], tries.log([answer]))]
+            if len(group) > 1:
+                names = {c.name for c in amiss}
+                amiss = [c for answer in group if answer.name in names for c in complaints(root, edit, [answer], tries.log([answer]))]
             found += amiss
         return found
     except BadEdit as bad:
@@ -124,11 +125,17 @@ def refusal(root, edit, tries):
 def complaints(root, edit, answers, log):
     errors = logs.errors_of(log)
     return [
-        Complaint(edit.path, place.line, answer.name, f"{place} refused it {why}", "name a place whose fact no longer holds, or drop it: it may be a right answer, spelt otherwise")
+        Complaint(edit.path, place.line, answer.name, f"{place} refused it {why}", mend(errors, place))
         for answer in answers
         for place in answer.places
         if (why := unrefused(logs.at(errors, place), is_row(root, edit, place)))
     ]
+
+
+def mend(errors, place):
+    facts = dict.fromkeys(e.declaration for e in errors if e.file == place.file and e.is_fact())
+    there = f" (there {', '.join(facts)} refused)" if facts else ""
+    return f"name a place whose fact no longer holds{there}, or drop it: it may be a right answer, spelt otherwise"
 
 
 def unrefused(there, of_row):
