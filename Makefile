@@ -9,7 +9,7 @@ SEED ?= 1
 # a step: its name and its command; says how long it took
 step = @start=$$(date +%s) && echo "== $(1)" && $(2) && echo "== $(1): $$(($$(date +%s) - start)) s"
 
-.PHONY: run test bench growth claims header proved refused library walks symbols examples refusals compare
+.PHONY: run test bench growth claims header proved refused library symbols examples refusals compare
 
 run:
 	$(call step,trials proved with all that it stands on (log: build/run.log),tools/quietly build/run.log sh -c 'cd crates/trials && rt run > /dev/null')
@@ -18,7 +18,7 @@ run:
 
 # `rt ci` comes before all that needs a proved crate: what it has proved is not proved again behind it. It refuses files that are not in rt fmt's layout. Its 'N passed, 0 failed'
 # is said again as the last line.
-test: claims header proved refused library walks symbols examples refusals compare
+test: claims header proved refused library symbols examples refusals compare
 	@tail -n 1 build/ci.log
 
 claims:
@@ -33,10 +33,6 @@ refused:
 
 library:
 	$(call step,static library,tools/quietly build/library.log tools/library)
-
-# behind the library, since `rt mir` proves what a crate stands on
-walks: library
-	$(call step,walks beside their descriptions,tools/test-walkgen && tools/walkgen --check)
 
 header:
 	$(call step,header and Rust declarations beside the source,tools/check-layout)
