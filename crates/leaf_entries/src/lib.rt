@@ -1,5 +1,4 @@
-// The list as a lent slice of entries, each a plain struct: the functions that read, insert, split and drain entries. The prover's own walk
-// does not cover a slice of structs, so their walks are written by tools/walkgen.
+// The list as a lent slice of entries, each a plain struct: the functions that read, insert, split and drain entries.
 #![tactic(auto)]
 
 ghost use Rattle.std.specs.Prelude.{◌≡◌, ◌≤◌, length, get_or, set, take};
