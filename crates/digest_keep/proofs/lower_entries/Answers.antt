@@ -12,9 +12,11 @@ pub loop-i-preserved : goal.loop-i-preserved
 loop-i-preserved c =
     let a = c.args in
     let at = c.loop-i in
-    let from = c.gap_of-from.result in
-    (c.requires, subst (λ (l : List Entry). Lowering a.list.now a.count from l (at.i + 1)) (sym (c.insert.ensures ∙ ap (set at.list at.i) c.read-entry.ensures))
-      (one_more_is_lowered a.list.now a.count from c.requires at.list at.i at.invariant.1 blank c.loop-i-test.true))
+    let from = c.gap_of-from.result in (
+      c.requires,
+      subst (λ (l : List Entry). Lowering a.list.now a.count from l (at.i + 1)) (sym (c.insert.ensures ∙ ap (set at.list at.i) c.read-entry.ensures))
+          (one_more_is_lowered a.list.now a.count from c.requires at.list at.i at.invariant.1 blank c.loop-i-test.true),
+    )
 
 pub returns : goal.returns
 returns c = all_are_lowered c.args.list.now c.args.count c.gap_of-from.result c.requires c.loop-i.list c.loop-i.i c.loop-i.invariant.1 c.loop-i-test.false

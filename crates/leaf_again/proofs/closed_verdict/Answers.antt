@@ -11,8 +11,7 @@ pub returns-then-work-eq1 : goal.returns-then-work-eq1
 returns-then-work-eq1 c = search (an_open_work_is_out_of_turn, rules)
 
 pub is_sound-requires : goal.is_sound-requires
-is_sound-requires c =
-    (
+is_sound-requires c = (
   search rules,
   no_bytes_are_regardable _,
   search (then_rows_and_keys_are_as_many, rules),
