@@ -240,7 +240,7 @@ uint8_t leaf_open(LeafWork *work, LeafEntry *list, size_t list_len, uint8_t *sto
  * its place in the page is reported: always in mode LEAF_REPORT_EVERY, else if at least one was taken up just before it in this call.
  * Leaves at most two new entries in the list, and the value in the store.
  * Refuses by: 1 to 6 for the base's page; 7; 8; 9 when waiting or done; 12; 13; 14; 15; 16. A deletion is never refused by 12, 15 or 16.
- * Stack: 2,880 bytes.
+ * Stack: 3,008 bytes.
  */
 LeafReport leaf_ingest(LeafWork *work, LeafEntry *list, size_t list_len, uint8_t *store, size_t store_len,
                        const uint8_t *page, size_t page_len, const uint8_t key[LEAF_KEY_SIZE], uint8_t put, uint8_t flag,
@@ -252,7 +252,7 @@ LeafReport leaf_ingest(LeafWork *work, LeafEntry *list, size_t list_len, uint8_t
  * Leaves a work that is done, with list and store all zeros; or one that waits for a merge, with the records that are left as inserts.
  * Refuses by: 1 to 6 for the base's page; 7; 8; 9 when waiting or done; 17 where the area is shorter than LEAF_AREA_ASKED of the pending
  * body or the tickets shorter than LEAF_TICKETS_ASKED, also where it would give no leaf.
- * Stack: 3,328 bytes.
+ * Stack: 4,864 bytes.
  */
 LeafGave leaf_digest(LeafWork *work, LeafEntry *list, size_t list_len, uint8_t *store, size_t store_len,
                      const uint8_t *page, size_t page_len, uint8_t *area, size_t area_len, uint8_t *tickets,
@@ -262,7 +262,7 @@ LeafGave leaf_digest(LeafWork *work, LeafEntry *list, size_t list_len, uint8_t *
  * The next base of a work that waits, or is done and has a cutoff: its separator is at or above that cutoff. The work is then open.
  * Answers 0 or the refusal; changes the work record alone.
  * Refuses by: 1 to 6 for the new page; 7; 8 when waiting or done; 9 when open, or done without a cutoff; 13; 15; 16.
- * Stack: 2,176 bytes.
+ * Stack: 2,880 bytes.
  */
 uint8_t leaf_next_base(LeafWork *work, const LeafEntry *list, size_t list_len, const uint8_t *store, size_t store_len,
                        const uint8_t *page, size_t page_len, const uint8_t separator[LEAF_KEY_SIZE], uint8_t cut,
@@ -272,7 +272,7 @@ uint8_t leaf_next_base(LeafWork *work, const LeafEntry *list, size_t list_len, c
  * Removes the cutoff of a work that waits: there is no further leaf to merge with. The work is then open, with no base.
  * Answers 0 or the refusal; changes the work record alone.
  * Refuses by: 7; 8 when waiting or done; 9 when open or done.
- * Stack: 1,856 bytes.
+ * Stack: 2,112 bytes.
  */
 uint8_t leaf_remove_cutoff(LeafWork *work, const LeafEntry *list, size_t list_len, const uint8_t *store,
                            size_t store_len);
@@ -281,7 +281,7 @@ uint8_t leaf_remove_cutoff(LeafWork *work, const LeafEntry *list, size_t list_le
  * Pending record i, in every turn: the listed ones in order, then the base's rest. The value is len bytes from offset on, of the store or
  * of the base's page, as holder says. Only reads.
  * Refuses by: 1 to 6 for the base's page; 7; 8; 10 where i is not below the number of pending records.
- * Stack: 2,304 bytes.
+ * Stack: 2,368 bytes.
  */
 LeafTwinPlace leaf_twin(LeafWork work, const LeafEntry *list, size_t list_len, const uint8_t *store, size_t store_len,
                         const uint8_t *page, size_t page_len, size_t i);
@@ -289,14 +289,14 @@ LeafTwinPlace leaf_twin(LeafWork work, const LeafEntry *list, size_t list_len, c
 /*
  * Copies the value of pending record i to the start of out, if out has room for all of it, else nothing. Answers the value's length: 0
  * also where leaf_twin refuses, which tells a refusal from an empty value. Has no refusals of its own.
- * Stack: 2,304 bytes.
+ * Stack: 2,432 bytes.
  */
 size_t leaf_part(LeafWork work, const LeafEntry *list, size_t list_len, const uint8_t *store, size_t store_len,
                  const uint8_t *page, size_t page_len, size_t i, uint8_t *out, size_t out_len);
 
 /*
  * Whether a key is below the work's cutoff, 1 or 0; 1 where it has none. Reads the work record alone and refuses nothing.
- * Stack: 384 bytes.
+ * Stack: 512 bytes.
  */
 uint8_t leaf_is_in_scope(LeafWork work, const uint8_t key[LEAF_KEY_SIZE]);
 
@@ -409,7 +409,7 @@ LeafSplit leaf_overflow_split(const uint8_t *value, size_t value_len, const uint
  * Joins the pages of a cell into their value, in the front of the buffer, whose other bytes keep what they held. Answers the value's length.
  * Refuses by: 23 where no splitting writes the cell; 22 where the buffer or the pages are too short; 23 where none writes the cell with these
  * pages. Refused, the buffer keeps what it held.
- * Stack: 128 bytes.
+ * Stack: 192 bytes.
  */
 LeafJoined leaf_overflow_join(const uint8_t *cell, size_t cell_len, const uint8_t *pages, size_t pages_len, uint8_t *value,
                               size_t value_len);
@@ -419,7 +419,7 @@ LeafJoined leaf_overflow_join(const uint8_t *cell, size_t cell_len, const uint8_
  * how many.
  * Refuses by: 23 where no splitting writes the cell; 22 where list or pages are too short; 23 where none writes the cell with these pages.
  * Refused, the list keeps what it held.
- * Stack: 128 bytes.
+ * Stack: 192 bytes.
  */
 LeafFreed leaf_overflow_free(const uint8_t *cell, size_t cell_len, const uint8_t *pages, size_t pages_len, uint32_t *numbers,
                              size_t numbers_len);

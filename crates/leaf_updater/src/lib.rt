@@ -3,7 +3,7 @@
 // says which one stands for each case. `leaf_updater_c` exports each of them.
 #![tactic(auto)]
 
-ghost use Rattle.std.specs.Prelude.{◌≡◌, cond, length};
+ghost use Rattle.std.specs.Prelude.{◌≡◌, cond, length, List};
 ghost use Rattle.bit_ops.specs.Separate.{shared_bits, separate_verdict, separate_leaves};
 ghost use Rattle.leaf_node.specs.Good.{page_verdict};
 ghost use Rattle.leaf_read.specs.Reply.{key_reply, value_reply, get_reply, size_reply};
@@ -15,7 +15,12 @@ ghost use Rattle.leaf_work.specs.Outcome.{twin_of, part_of, in_scope_of};
 ghost use Rattle.leaf_open.specs.Opening.{opening_of};
 ghost use Rattle.leaf_ingest.specs.Reply.{change_of};
 ghost use Rattle.leaf_pending.specs.Reply.{twin_out};
+ghost use Rattle.leaf_passed.specs.Passed.{PassingOn, beginning_of, passed_over};
 ghost use Rattle.leaf_take.specs.Reply.{change_given};
+ghost use Rattle.leaf_take.specs.Listing.{Steps};
+ghost use Rattle.leaf_step.specs.Over.{Over};
+ghost use Rattle.leaf_work.specs.declared.Entry as declared;
+ghost use Rattle.leaf_work.specs.Outcome as outcome;
 ghost use Rattle.digest.specs.Digests.{DigestSays};
 ghost use Rattle.leaf_updater.specs.Calls.{OpenSays, IngestSays, NextBaseSays, RemoveCutoffSays};
 ghost use Rattle.leaf_updater.specs.Copy.{copied_whole};
@@ -24,12 +29,12 @@ use digest::digest;
 use leaf_digest::LeafGave;
 use leaf_entries::{drain, insert, pass_entries, seek_entries};
 use leaf_page::{LeafKey, LeafSize, LeafValue, bit};
-use leaf_passed::begin_seek;
+use leaf_passed::{Passing, begin_seek};
 use leaf_pending::TwinPlace;
 use leaf_step::{
     next_base_step, open_step, part_step, remove_step, start, start_closed, twin_step,
 };
-use leaf_take::{LeafReport, ingest_step};
+use leaf_take::{IngestStep, LeafReport, ingest_step};
 use leaf_work::{Entry, Work};
 
 // ---- keys
@@ -129,6 +134,33 @@ pub fn leaf_open(
     step.refusal
 }
 
+// The pass over all entries. Its locals need no stack once it has been made.
+#[inline(never)]
+fn passed(work: &Work, list: &[Entry], page: &[u8]) -> Passing
+    ensures { (result ≡ passed_over page.now (beginning_of 4096 work.now page.now) list.now) × (PassingOn result page.now) }
+{
+    pass_entries(list, page, start(*work, page))
+}
+
+// The ingest behind that pass. Its locals need no stack while the entries are gone through.
+#[inline(never)]
+fn ingest_at(
+    work: &Work,
+    at: &Passing,
+    entries: usize,
+    store: &mut [u8],
+    page: &[u8],
+    key: &[u8; 32],
+    put: u8,
+    flag: u8,
+    value: &[u8],
+) -> IngestStep
+    requires { Over work.now page.now at.now entries }
+    ensures { (list : List declared.Entry) → length list ≡ entries → at.now ≡ passed_over page.now (beginning_of 4096 work.now page.now) list → Steps (outcome.ingest_of 4096 work.now list store.old page.now key.now (change_of (change_given put flag) value.now)) list result store.new }
+{
+    ingest_step(*work, *at, entries, store, page, key, put, flag, value)
+}
+
 // Takes a key into an open work: with a new value and its flag where put is set, else as a deletion, which ignores both.
 pub fn leaf_ingest(
     work: &mut Work,
@@ -142,9 +174,8 @@ pub fn leaf_ingest(
 ) -> LeafReport
     ensures { IngestSays work.old list.old store.old page.now key.now (change_of (change_given put flag) value.now) result work.new list.new store.new }
 {
-    let begun = start(*work, page);
-    let at = pass_entries(list, page, begun);
-    let step = ingest_step(*work, at, list.len(), store, page, key, put, flag, value);
+    let at = passed(work, list, page);
+    let step = ingest_at(work, &at, list.len(), store, page, key, put, flag, value);
     insert(list, step.at, step.chunk);
     insert(list, step.next, step.insert);
     *work = step.work;
