@@ -1,6 +1,5 @@
 -- `row_ingest::take_change` meets its contract.
 -- Assumes nothing.
-use Rattle.std.proofs.Common.{rules}
 use Rattle.row_ingest.proofs.Changes.{a_change_is_taken}
 use Rattle.row_ingest.proofs.take_change.Goals as goal
 

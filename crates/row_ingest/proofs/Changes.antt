@@ -1,16 +1,14 @@
 -- One change: its parts, and what its ingest leaves. Assumes nothing.
-use mathlib.Core.Path.{◌≡◌, refl, sym, ap, subst, ◌∙◌}
+use mathlib.Core.Path.{◌≡◌, refl, ap, subst, ◌∙◌}
 use mathlib.Core.Bool.{Bool, true, false, cond}
-use mathlib.Core.Option.{Option, none, some}
-use mathlib.Core.List.{List, []}
-use Prim.Native.Nat.{ℕ, ◌+◌, ◌-◌, ◌≤◌, ◌<◌}
+use mathlib.Core.Option.{Option}
+use mathlib.Core.List.{List}
+use Prim.Native.Nat.{ℕ, ◌+◌, ◌-◌, ◌<◌}
 use native.Mathlib.Omega.{arith}
-use lib.Dec.{eqb}
 use lib.ListN.{length, replicate, take, drop}
 use borrow.Author.Tests.{eq-eqb, ne_eqb}
 use Rattle.leaf_node.specs.Build.{put}
 use Rattle.leaf_model.specs.Work as model
-use Rattle.leaf_work.specs.declared.Work.{Work}
 use Rattle.leaf_work.specs.declared.Entry.{Entry}
 use Rattle.leaf_work.specs.Outcome.{IngestReply, IngestRefused, Quiet, Reported, ingest_number, Ingested, ingest_on}
 use Rattle.leaf_node.proofs.Copying.{put_all}
@@ -22,7 +20,6 @@ use Rattle.leaf_take.specs.Reply.{report_out}
 use Rattle.leaf_take.specs.Listing.{Steps}
 use Rattle.row_changes.specs.Packed.{key_of, is_put, flag_of, length_of, value_length, change_of}
 use Rattle.row_ingest.specs.declared.Taking.{Taking}
-use Rattle.row_ingest.specs.declared.ChangeStep.{ChangeStep}
 use Rattle.row_ingest.specs.Taking.{change_at, until_refused, ingested_by, ChangeTaken}
 
 pub a_copied_key_is_the_key : (k part copy : List ℕ) → (part ≡ k) × (length part ≡ 32) → copy ≡ put (replicate 32 0) 0 part → copy ≡ k

@@ -5,13 +5,11 @@ use mathlib.Core.List.{List, [], ◌∷◌}
 use Prim.Native.Nat.{ℕ, zero, suc, ◌+◌, ◌≤◌, ◌<◌}
 use native.Mathlib.Omega.{arith}
 use lib.Dec.{eqb}
-use lib.ListN.{length, set, get_or, take, drop, length-set, length-drop}
+use lib.ListN.{length, set, get_or, drop, length-set}
 use lib.Seq.{drop-drop, drop-length}
-use borrow.Author.Tests.{eq-eqb, ne_eqb, eqb-true}
-use Rattle.leaf_node.specs.Limits.{PageSize}
+use borrow.Author.Tests.{eq-eqb, eqb-true}
 use Rattle.leaf_node.specs.Record.{Record}
 use Rattle.leaf_model.specs.Tally.{changed}
-use Rattle.leaf_work.specs.declared.Work.{Work}
 use Rattle.leaf_work.specs.declared.Entry.{Entry}
 use Rattle.leaf_work.specs.Lent.{cutoff_of, separator_of}
 use Rattle.leaf_work.specs.Pending.{pending_of}
@@ -19,7 +17,6 @@ use Rattle.leaf_work.specs.Verdict.{first}
 use Rattle.leaf_work.specs.Outcome.{ingest_number, Ingested}
 use Rattle.leaf_ingest.specs.Steps.{Takes}
 use Rattle.leaf_ingest.proofs.Ingests.{accepted_things_take_an_ingest}
-use Rattle.leaf_take.specs.Listing.{TakesWithin}
 use Rattle.leaf_step.proofs.Closed.{a_page_has_4096_bytes}
 use Rattle.row_turns.specs.Changes.{Edit, changed_all}
 use Rattle.row_turns.specs.Turns.{room_verdict, rooms_verdict}
