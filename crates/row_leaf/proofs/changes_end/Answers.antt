@@ -1,9 +1,7 @@
 -- `row_leaf::changes_end` meets its contract.
 -- Assumes nothing.
 use Rattle.std.proofs.Common.{rules}
-use Prim.Native.Nat.{◌-◌}
-use lib.ListN.{length}
-use Rattle.row_leaf.proofs.Leaves.{without_a_cutoff_all_are_taken, CountedTo, none_is_counted, past_the_last, the_changes_end_there, one_more_is_below}
+use Rattle.row_leaf.proofs.Leaves.{without_a_cutoff_all_are_taken, none_is_counted, past_the_last, the_changes_end_there, one_more_is_below}
 use Rattle.row_leaf.proofs.changes_end.Goals as goal
 
 pub returns-then-not-leaf : goal.returns-then-not-leaf

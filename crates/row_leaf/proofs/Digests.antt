@@ -1,20 +1,18 @@
 -- A loaded leaf that is digested: what the digest requires, and that its leaves come behind those of the new row. Assumes nothing.
 use mathlib.Core.Path.{◌≡◌, refl, sym, ap, subst, ◌∙◌}
 use mathlib.Core.Logic.{inl}
-use mathlib.Core.Bool.{Bool, true, false, cond, ◌&&◌}
-use mathlib.Core.Option.{Option, none, some}
+use mathlib.Core.Bool.{true}
+use mathlib.Core.Option.{Option}
 use mathlib.Core.List.{List, [], ◌∷◌, ◌++◌, map, append-nil}
-use Prim.Native.Nat.{ℕ, suc, ◌+◌, ◌-◌, ◌*◌, ◌≤◌, ◌<◌}
+use Prim.Native.Nat.{ℕ, ◌+◌, ◌-◌, ◌*◌, ◌≤◌, ◌<◌}
 use native.Mathlib.Omega.{arith}
-use native.Mathlib.Nat.{mul-le-mul_right}
-use lib.ListN.{length, take, drop, replicate, length-map, length-drop, length-append, take-append-drop, length-replicate}
+use lib.ListN.{length, take, drop, replicate, length-map, length-drop, length-append, take-append-drop}
 use lib.Seq.{take-length, drop-length, drop-drop}
-use borrow.Author.Tests.{le-leb, leb-true}
+use borrow.Author.Tests.{le-leb}
 use Rattle.leaf_node.specs.Limits.{PageSize, merge_below, pages_asked}
 use Rattle.leaf_node.specs.Record.{Record, body, total}
 use Rattle.leaf_node.specs.Page.{count}
 use Rattle.leaf_node.specs.Build.{put}
-use Rattle.leaf_node.specs.Ticket.{Ticket, read_tickets}
 use Rattle.leaf_node.specs.Fits.{All}
 use Rattle.leaf_node.proofs.Lengths.{body_is_pointers_and_values}
 use Rattle.leaf_model.specs.Basics.{nonempty}
@@ -26,12 +24,12 @@ use Rattle.leaf_model.proofs.Plan.{leaves_never_more_than_pages_asked}
 use Rattle.leaf_work.specs.declared.Work.{Work}
 use Rattle.leaf_work.specs.declared.Entry.{Entry}
 use Rattle.leaf_work.specs.Tests.{is_set}
-use Rattle.leaf_work.specs.Lent.{blank, is_open, cutoff_of, separator_of, regarded}
+use Rattle.leaf_work.specs.Lent.{blank, cutoff_of, separator_of, regarded}
 use Rattle.leaf_work.specs.Pending.{pending_of}
 use Rattle.leaf_work.specs.Flat.{row_of, rows_of, keys_of}
 use Rattle.leaf_work.specs.Ready as ready
 use Rattle.leaf_work.specs.Verdict.{lent_verdict, has_pages, digest_verdict}
-use Rattle.leaf_work.specs.Digest.{Digested, digest_reply_by, pages_of, tickets_of, ticket_of, overwrite, digest_done}
+use Rattle.leaf_work.specs.Digest.{Digested, digest_reply_by, pages_of, tickets_of, ticket_of, digest_done}
 use Rattle.leaf_work.proofs.Tests.{and_both}
 use Rattle.leaf_work.proofs.Laid.{pending_parts}
 use Rattle.leaf_work.proofs.Readiness as readiness
@@ -46,7 +44,7 @@ use Rattle.leaf_claim.proofs.Leaves.{tickets_are_read_back}
 use Rattle.digest_keep.proofs.Lists.{the_list_of_its_rows_and_keys}
 use Rattle.digest.specs.declared.DigestStep.{DigestStep}
 use Rattle.digest.specs.Steps.{Ready, Made, outcome_of}
-use Rattle.row_work.specs.Loaded.{Loaded, Rests}
+use Rattle.row_work.specs.Loaded.{Rests}
 use Rattle.row_work.proofs.Holds.{state, the_work_is_reached}
 use Rattle.row_work.proofs.Digesting.{a_digest_rests}
 use Rattle.row_ingest.specs.declared.Taking.{Taking}

@@ -3,9 +3,9 @@ use mathlib.Core.Path.{◌≡◌, refl, sym, ap, ◌∙◌}
 use mathlib.Core.Bool.{Bool, true, false, not, cond}
 use mathlib.Core.Option.{Option, none, some}
 use mathlib.Core.List.{List, [], ◌∷◌}
-use Prim.Native.Nat.{ℕ, zero, suc, ◌+◌, ◌-◌, ◌*◌, ◌≤◌, ◌<◌}
+use Prim.Native.Nat.{ℕ, zero, suc, ◌+◌, ◌*◌, ◌≤◌, ◌<◌}
 use native.Mathlib.Omega.{arith}
-use lib.Dec.{leb, ltb}
+use lib.Dec.{ltb}
 use lib.ListN.{length, get_or, drop, length-drop}
 use borrow.Author.Tests.{lt-ltb, le-ltb, le-leb, lt-leb, not-true, not-false}
 use Rattle.bit_ops.specs.Key.{lt_key}
@@ -24,7 +24,7 @@ use Rattle.digest.specs.declared.DigestStep.{DigestStep}
 use Rattle.row_leaf.specs.declared.LeafAt.{LeafAt}
 use Rattle.row_leaf.specs.declared.RowAt.{RowAt}
 use Rattle.row_leaf.specs.Load.{given_by}
-use Rattle.row_leaf.specs.Leaf.{Begins, begun_by, next_separator, leaf_at, cutoff_in, page_in, count_below, changes_end, CopyThere, copied_by, LeafCopied}
+use Rattle.row_leaf.specs.Leaf.{Begins, begun_by, next_separator, leaf_at, cutoff_in, page_in, count_below, changes_end, copied_by, LeafCopied}
 
 -- ---- the leaf
 

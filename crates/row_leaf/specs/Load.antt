@@ -1,5 +1,5 @@
 -- Document 02, M-101: a leaf that is loaded: its changes are taken, and what is pending is digested into the new row.
-use Rattle.std.specs.Prelude.{◌≡◌, Bool, true, false, cond, List, [], ◌++◌, map, ℕ, ◌+◌, ◌-◌, ◌*◌, ◌≤◌, ◌<◌, length, take, drop, replicate}
+use Rattle.std.specs.Prelude.{◌≡◌, true, false, cond, List, [], ◌++◌, map, ℕ, ◌+◌, ◌-◌, ◌*◌, ◌≤◌, ◌<◌, length, take, drop, replicate}
 use Rattle.std.proofs.Math.Option.{Option, some}
 use Rattle.bit_ops.specs.Steps.{zeros}
 use Rattle.leaf_node.specs.Limits.{pages_asked}
@@ -8,13 +8,11 @@ use Rattle.leaf_node.specs.Page.{records}
 use Rattle.leaf_node.specs.Build.{put}
 use Rattle.leaf_node.specs.Fits.{All}
 use Rattle.leaf_model.specs.Basics.{nonempty}
-use Rattle.leaf_model.specs.Cut.{Cut}
-use Rattle.leaf_model.specs.Work.{Leaf, zero_key, below_cutoff, plan, leaves_by, separator_after}
+use Rattle.leaf_model.specs.Work.{zero_key, below_cutoff, plan, leaves_by, separator_after}
 use Rattle.leaf_model.specs.Claim.{Le}
-use Rattle.leaf_work.specs.declared.Work.{Work}
 use Rattle.leaf_work.specs.declared.Entry.{Entry}
 use Rattle.leaf_work.specs.Tests.{is_set}
-use Rattle.leaf_work.specs.Lent.{blank, room_right, cutoff_of, separator_of}
+use Rattle.leaf_work.specs.Lent.{blank, room_right, separator_of}
 use Rattle.leaf_work.specs.Pending.{pending_of}
 use Rattle.leaf_work.specs.Verdict.{base_verdict}
 use Rattle.leaf_work.specs.Digest.{pages_of}

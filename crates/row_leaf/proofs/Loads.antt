@@ -1,8 +1,8 @@
 -- A leaf that is loaded, from its opening or next base to its digest. Assumes nothing.
 use mathlib.Core.Path.{◌≡◌, refl, sym, ap, subst, ◌∙◌}
 use mathlib.Core.Bool.{Bool, true, false, cond, ◌&&◌}
-use mathlib.Core.Option.{Option, some}
-use mathlib.Core.List.{List, [], ◌∷◌, ◌++◌}
+use mathlib.Core.Option.{Option}
+use mathlib.Core.List.{List, [], ◌++◌}
 use Prim.Native.Nat.{ℕ, ◌+◌, ◌-◌, ◌*◌, ◌≤◌, ◌<◌}
 use native.Mathlib.Omega.{arith}
 use lib.Dec.{eqb, leb}
@@ -14,7 +14,6 @@ use Rattle.leaf_node.specs.Limits.{PageSize, record_limit, pages_asked}
 use Rattle.leaf_node.specs.Record.{Record, body}
 use Rattle.leaf_node.specs.Page.{run, records_between, records}
 use Rattle.leaf_node.specs.Good.{Good}
-use Rattle.leaf_node.specs.Steps.{Laid}
 use Rattle.leaf_node.specs.Fits.{All}
 use Rattle.leaf_node.proofs.Reading.{good_pages_are_laid}
 use Rattle.leaf_model.specs.Basics.{nonempty}
@@ -31,11 +30,11 @@ use Rattle.leaf_work.specs.Outcome.{next_base_work}
 use Rattle.leaf_work.proofs.Laid.{an_ignored_page_has_no_records}
 use Rattle.leaf_work.proofs.BasePages.{base_page_is_good}
 use Rattle.leaf_step.proofs.Closed.{a_page_has_4096_bytes}
-use Rattle.row_turns.specs.Changes.{Edit, EditsRight, changed_all}
+use Rattle.row_turns.specs.Changes.{Edit, changed_all}
 use Rattle.row_turns.specs.Turns.{room_verdict, rooms_verdict, load_verdict}
 use Rattle.row_changes.specs.Packed.{edits_of}
 use Rattle.row_changes.specs.Tests.{values_length}
-use Rattle.row_work.specs.Loaded.{Loaded, Stays, Waits}
+use Rattle.row_work.specs.Loaded.{Loaded}
 use Rattle.row_work.proofs.Opening as opening
 use Rattle.row_work.proofs.NextBase as following
 use Rattle.row_ingest.specs.declared.Taking.{Taking}
