@@ -1,5 +1,5 @@
 -- Document 02, M-101: the turns of a row, leaf after leaf, by the definitions of `row_turns`.
-use Rattle.std.specs.Prelude.{◌≡◌, true, false, cond, List, [], ◌∷◌, ℕ, ◌≤◌, eqb, length, replicate}
+use Rattle.std.specs.Prelude.{◌≡◌, true, false, cond, List, ℕ, ◌≤◌, eqb, length, replicate}
 use Rattle.bit_ops.specs.Steps.{zeros}
 use Rattle.leaf_node.specs.Ticket.{packed_all}
 use Rattle.leaf_node.specs.Fits.{All}
@@ -10,7 +10,7 @@ use Rattle.leaf_work.specs.Lent.{blank}
 use Rattle.leaf_work.specs.Outcome.{fresh_work}
 use Rattle.leaf_work.specs.Digest.{overwrite}
 use Rattle.row_turns.specs.Row.{RowLeaf, is_from_zero, row_tickets, pages_of}
-use Rattle.row_turns.specs.Turns.{Turned, nothing_yet, turns, row_turned}
+use Rattle.row_turns.specs.Turns.{Turned, nothing_yet, turns}
 use Rattle.row_changes.specs.Packed.{edits_of}
 use Rattle.row_check.specs.Verdict.{row_of, row_verdict}
 use Rattle.row_leaf.specs.declared.LeafAt.{LeafAt}

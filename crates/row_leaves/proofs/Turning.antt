@@ -1,5 +1,5 @@
 -- One leaf of a row: loaded or copied, as its turn says. Assumes nothing.
-use mathlib.Core.Path.{◌≡◌, refl, sym, ap, subst, ◌∙◌}
+use mathlib.Core.Path.{◌≡◌, refl, sym, ap, ◌∙◌}
 use mathlib.Core.Bool.{Bool, true, false}
 use mathlib.Core.List.{List}
 use Prim.Native.Nat.{ℕ}
@@ -10,7 +10,7 @@ use Rattle.row_leaf.specs.declared.LeafAt.{LeafAt}
 use Rattle.row_leaf.specs.declared.RowAt.{RowAt}
 use Rattle.row_leaf.specs.Leaf.{leaf_at, changes_end, is_loaded, CopyThere, LeafCopied}
 use Rattle.row_leaf.specs.Load.{LoadThere, LeafLoaded}
-use Rattle.row_leaves.specs.Turns.{to_by, TurnThere, CopiedOnly, LeafTurned}
+use Rattle.row_leaves.specs.Turns.{to_by, TurnThere, LeafTurned}
 
 module _ (at : RowAt) (i : ℕ) (list : List Entry) (store pages : List ℕ) (separators changes : List (List ℕ)) (values area tickets : List ℕ) (h : TurnThere at i list store pages separators changes values area tickets)
     (leaf : LeafAt) (e : leaf ≡ leaf_at separators i) (to : ℕ) (f : to ≡ changes_end changes at.change leaf) (b : Bool) (g : b ≡ is_loaded at to) where

@@ -6,11 +6,11 @@ use mathlib.Core.List.{List, [], ◌∷◌, ◌++◌, map, append-nil, append_as
 use Prim.Native.Nat.{ℕ, zero, suc, ◌+◌, ◌-◌, ◌*◌, ◌≤◌, ◌<◌}
 use native.Mathlib.Omega.{arith}
 use native.Mathlib.Nat.{le_trans, mul-le-mul_right}
-use lib.Dec.{eqb, leb, ltb}
-use lib.ListN.{length, get_or, take, drop, replicate, length-append, length-drop, length-take, length-map}
-use lib.Seq.{drop-drop, drop-length, take-length, take_at, drop_at, length-take-le}
+use lib.Dec.{eqb, ltb}
+use lib.ListN.{length, get_or, take, drop, replicate, length-append, length-drop}
+use lib.Seq.{drop-drop, drop-length, take_at, drop_at}
 use native.Mathlib.Decide.{dec_lt}
-use borrow.Author.Tests.{eq-eqb, ne_eqb, eqb-true, ltb-false, lt-leb, lt-ltb, le-ltb}
+use borrow.Author.Tests.{eq-eqb, eqb-true, ltb-false, lt-leb, lt-ltb, le-ltb}
 use Rattle.bit_ops.specs.Key.{num}
 use Rattle.bit_ops.specs.Steps.{zeros}
 use Rattle.leaf_node.specs.Limits.{PageSize, body_limit, merge_below, pages_asked}
@@ -21,15 +21,14 @@ use Rattle.leaf_node.specs.Build.{put, build}
 use Rattle.leaf_node.specs.Fits.{All, nil, cons}
 use Rattle.leaf_model.specs.Basics.{joined, nonempty}
 use Rattle.leaf_model.specs.Cut.{Cut}
-use Rattle.leaf_model.specs.Work.{Leaf, zero_key, or_else, below_cutoff, plan, leaves_by, with_separators, separator_after}
+use Rattle.leaf_model.specs.Work.{Leaf, zero_key, or_else, plan, leaves_by}
 use Rattle.leaf_model.specs.Claim.{Le}
 use Rattle.leaf_model.proofs.Tests.{clash, none_is_not_some}
-use Rattle.leaf_model.proofs.Lists.{all_append, all_map, all_head, joined_append}
+use Rattle.leaf_model.proofs.Lists.{all_append, all_map, all_head}
 use Rattle.leaf_work.specs.declared.Entry.{Entry}
-use Rattle.leaf_work.specs.Tests.{is_set, key_if}
-use Rattle.leaf_work.specs.Lent.{blank, room_right, separator_of}
+use Rattle.leaf_work.specs.Tests.{is_set}
+use Rattle.leaf_work.specs.Lent.{blank, separator_of}
 use Rattle.leaf_work.specs.Pending.{pending_of}
-use Rattle.leaf_work.specs.Verdict.{base_verdict}
 use Rattle.leaf_work.specs.Digest as digest
 use Rattle.leaf_work.proofs.Tests.{key_is_there}
 use Rattle.leaf_builder.proofs.Putting.{put_parts}
@@ -37,12 +36,12 @@ use Rattle.leaf_step.proofs.Closed.{a_page_has_4096_bytes}
 use Rattle.row_turns.specs.Row as rows
 use Rattle.row_turns.specs.Row.{RowLeaf, cutoff_by, IsRow, FromZero, first_leaf, no_leaf, Among, is_from_zero, pages_of}
 use Rattle.row_turns.specs.Changes.{Edit, EditsRight, changed_all, taken, behind, inserted_body, row_pages_asked}
-use Rattle.row_turns.specs.Turns.{Turned, made, room_verdict, load_verdict, digested_to, loaded, turn, turns, nothing_yet}
-use Rattle.row_turns.proofs.Changing.{all_taken, all_behind, taken_below, taken_rising, behind_rising, behind_above, nothing_behind}
+use Rattle.row_turns.specs.Turns.{Turned, made, load_verdict, digested_to, loaded, turn, turns, nothing_yet}
+use Rattle.row_turns.proofs.Changing.{all_taken, all_behind, taken_below, taken_rising, behind_rising, behind_above}
 use Rattle.row_turns.proofs.Turning.{EditFacts, Turning, loaded_is, a_turn_holds, refused_stays}
 use Rattle.row_turns.proofs.NewRow.{nothing_yet_lem, own_pages}
 use Rattle.row_turns.proofs.Asked.{a_full_page_of_4096_bytes_is_two_least_leaves, Within, inserted_in_turn, asked_within, asked_of_a_row, count_leaves, a_digest_gets_the_pages_it_asks_for, a_digest_stays_within, a_digest_gives_no_more_than_asked, a_copy_stays_within, proper, leaf_body}
-use Rattle.row_turns.proofs.Separators.{Separated, leaves_long}
+use Rattle.row_turns.proofs.Separators.{leaves_long}
 use Rattle.row_changes.specs.Packed.{edits_of}
 use Rattle.row_changes.specs.Tests.{values_length, put_bodies}
 use Rattle.row_changes.proofs.Edits.{inserted_bodies_are_those_of_the_entries, changes_that_pass_are_right}
@@ -50,13 +49,12 @@ use Rattle.row_check.specs.Verdict.{row_of}
 use Rattle.row_check.proofs.Facts.{Passed, a_row_that_passes, leaf_is_right, row_length}
 use Rattle.row_work.specs.Loaded.{Waits, Rests}
 use Rattle.row_tickets.specs.Linked.{separator_at, linked, linked_all, last_linked}
-use Rattle.row_tickets.proofs.NewRow.{Linked, packed_row, no_leaf_is_linked, one_leaf_is_linked, leaves_are_linked}
+use Rattle.row_tickets.proofs.NewRow.{Linked, no_leaf_is_linked, one_leaf_is_linked, leaves_are_linked}
 use Rattle.row_leaf.specs.declared.LeafAt.{LeafAt}
 use Rattle.row_leaf.specs.declared.RowAt.{RowAt}
-use Rattle.row_leaf.specs.Leaf.{next_separator, leaf_at, cutoff_in, page_in, count_below, changes_end, is_loaded, CopyThere, LeafCopied, copied_by}
-use Rattle.row_leaf.specs.Load as load
+use Rattle.row_leaf.specs.Leaf.{next_separator, leaf_at, cutoff_in, page_in, count_below, is_loaded, CopyThere, copied_by}
 use Rattle.row_leaf.specs.Load.{LeavesGiven, kept_by, begins_at, changes_in, edits_in, pending_in, LoadThere, LeafLoaded}
-use Rattle.row_leaves.specs.Turns.{to_by, TurnThere, CopiedOnly, LeafTurned, nothing_at, until_refused, RowThere, RowWritten, TurnedTo, RowTurned}
+use Rattle.row_leaves.specs.Turns.{to_by, TurnThere, CopiedOnly, LeafTurned, nothing_at, until_refused, RowThere, RowWritten, RowTurned}
 use Rattle.row_leaves.proofs.Loop.{no_further}
 use Rattle.row_leaves.proofs.Parts.{the_leaf, the_cutoff, row_behind, row_head, one_of, no_more_than_there_are, the_edits_taken, the_edits_behind, some_are_taken, values_in_two}
 
