@@ -1,12 +1,12 @@
 -- Document 02, M-101: what the row call answers and leaves, by `row_check`'s `row_outcome`; primes are what is there after it.
-use Rattle.std.specs.Prelude.{◌≡◌, Bool, cond, not, ◌&&◌, List, ℕ, ◌<◌, eqb, length, replicate}
+use Rattle.std.specs.Prelude.{◌≡◌, Bool, cond, not, ◌&&◌, List, ℕ, eqb, length, replicate}
 use Rattle.bit_ops.specs.Steps.{zeros}
 use Rattle.leaf_work.specs.declared.Entry.{Entry}
 use Rattle.leaf_work.specs.Lent.{blank}
 use Rattle.row_turns.specs.Turns.{row_turned}
 use Rattle.row_changes.specs.Packed.{edits_of}
 use Rattle.row_check.specs.Verdict.{row_of, row_verdict}
-use Rattle.row_check.specs.Outcome.{RowOutcome, row_outcome}
+use Rattle.row_check.specs.Outcome.{row_outcome}
 use Rattle.row_leaf.specs.declared.RowAt.{RowAt}
 use Rattle.row_leaves.specs.Turns.{TurnedTo}
 use Rattle.row_apply.specs.declared.LeafRow.{LeafRow}

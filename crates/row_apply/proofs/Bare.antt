@@ -1,34 +1,31 @@
 -- A row without leaves that takes changes: it is opened without a base. Any other row is taken leaf by leaf. Assumes nothing.
 use mathlib.Core.Path.{◌≡◌, refl, sym, ap, subst, ◌∙◌}
-use mathlib.Core.Bool.{Bool, true, false, not, ◌&&◌, cond}
-use mathlib.Core.Option.{Option, none, some}
-use mathlib.Core.List.{List, [], ◌∷◌, ◌++◌, map}
-use Prim.Native.Nat.{ℕ, ◌+◌, ◌-◌, ◌*◌, ◌≤◌, ◌<◌}
+use mathlib.Core.Bool.{Bool, true, false, not}
+use mathlib.Core.Option.{none}
+use mathlib.Core.List.{List, [], ◌∷◌, ◌++◌}
+use Prim.Native.Nat.{ℕ, ◌+◌, ◌-◌, ◌*◌, ◌≤◌}
 use native.Mathlib.Omega.{arith}
 use native.Mathlib.Nat.{le_of_eq, mul-le-mul_right}
 use lib.Dec.{eqb}
-use lib.ListN.{length, take, drop, length-append}
+use lib.ListN.{length, take, drop}
 use lib.Seq.{take-length}
 use borrow.Author.Tests.{eqb-true, ne_eqb, not-true}
-use Rattle.bit_ops.specs.Key.{num}
-use Rattle.leaf_node.specs.Limits.{PageSize, body_limit, merge_below, pages_asked}
+use Rattle.leaf_node.specs.Limits.{PageSize, pages_asked}
 use Rattle.leaf_node.specs.Record.{Record, body}
 use Rattle.leaf_node.specs.Page.{run, records_between, records}
 use Rattle.leaf_node.specs.Good.{Good}
 use Rattle.leaf_node.specs.Fits.{All, nil, cons}
 use Rattle.leaf_model.specs.Basics.{nonempty}
-use Rattle.leaf_model.specs.Work.{zero_key, below_cutoff, plan, leaves_by}
-use Rattle.leaf_model.specs.Claim.{Le}
+use Rattle.leaf_model.specs.Work.{zero_key, plan}
 use Rattle.leaf_model.proofs.Tests.{clash, and_left, and_right, none_is_not_some}
 use Rattle.leaf_model.proofs.Lists.{all_map}
 use Rattle.leaf_model.proofs.Plan.{kept_records_wait_for_a_merge}
 use Rattle.leaf_work.specs.declared.Entry.{Entry}
-use Rattle.leaf_work.specs.Tests.{key_if}
 use Rattle.leaf_work.proofs.Laid.{an_ignored_page_has_no_records}
 use Rattle.leaf_step.proofs.Closed.{a_page_has_4096_bytes}
-use Rattle.row_turns.specs.Row.{RowLeaf, is_from_zero, pages_of}
+use Rattle.row_turns.specs.Row.{RowLeaf, is_from_zero}
 use Rattle.row_turns.specs.Changes.{Edit, EditsRight, changed_all, inserted_body, row_pages_asked}
-use Rattle.row_turns.specs.Turns.{Turned, made, load_verdict, digested_to, loaded, turns, nothing_yet, row_turned}
+use Rattle.row_turns.specs.Turns.{Turned, load_verdict, digested_to, loaded, turns, nothing_yet, row_turned}
 use Rattle.row_turns.proofs.Turning.{loaded_is}
 use Rattle.row_turns.proofs.Asked.{a_full_page_of_4096_bytes_is_two_least_leaves, changes_add_what_they_insert, asked_within, count_leaves}
 use Rattle.row_changes.specs.Packed.{edits_of}
@@ -39,8 +36,8 @@ use Rattle.row_check.proofs.Facts.{Passed, a_row_that_passes, new_pages_are_good
 use Rattle.row_tickets.proofs.NewRow.{no_leaf_is_linked}
 use Rattle.row_leaf.specs.declared.LeafAt.{LeafAt}
 use Rattle.row_leaf.specs.declared.RowAt.{RowAt}
-use Rattle.row_leaf.specs.Leaf.{leaf_at, cutoff_in, page_in}
-use Rattle.row_leaf.specs.Load.{LeavesGiven, kept_by, begins_at, changes_in, edits_in, pending_in, LoadThere, LeafLoaded}
+use Rattle.row_leaf.specs.Leaf.{leaf_at}
+use Rattle.row_leaf.specs.Load.{LeavesGiven, changes_in, edits_in, pending_in, LoadThere, LeafLoaded}
 use Rattle.row_leaves.specs.Turns.{nothing_at, RowThere, RowWritten, TurnedTo, RowTurned}
 use Rattle.row_leaves.proofs.Stands.{Written, a_load_is_written, a_row_is_written, above_zeros}
 use Rattle.row_apply.specs.Apply.{is_bare, RowTaken}

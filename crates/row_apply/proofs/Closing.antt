@@ -1,7 +1,7 @@
 -- The reply, and what the call leaves: by the outcome's definition. Assumes nothing.
-use mathlib.Core.Path.{◌≡◌, refl, sym, ap, subst, ◌∙◌}
-use mathlib.Core.Bool.{Bool, true, false, cond, not, ◌&&◌}
-use mathlib.Core.List.{List, [], ◌∷◌, ◌++◌}
+use mathlib.Core.Path.{◌≡◌, refl, sym, ap, ◌∙◌}
+use mathlib.Core.Bool.{Bool, true, false, cond}
+use mathlib.Core.List.{List, [], ◌∷◌}
 use Prim.Native.Nat.{ℕ, zero, suc, ◌+◌, ◌-◌, ◌≤◌, ◌<◌}
 use native.Mathlib.Omega.{arith}
 use lib.Dec.{eqb}
@@ -19,7 +19,7 @@ use Rattle.leaf_step.proofs.Closed.{a_page_has_4096_bytes}
 use Rattle.row_turns.specs.Row.{is_from_zero}
 use Rattle.row_turns.specs.Turns.{Turned}
 use Rattle.row_check.specs.Verdict.{row_verdict}
-use Rattle.row_check.specs.Outcome.{RowOutcome, row_number, row_turns, refused_row, cleared_row, written_row, row_outcome}
+use Rattle.row_check.specs.Outcome.{RowOutcome, row_number, row_turns, cleared_row, written_row, row_outcome}
 use Rattle.row_check.proofs.Outcomes.{refused_before_its_turns_a_call_changes_nothing, refused_in_the_middle_a_call_clears_all}
 use Rattle.row_leaf.specs.declared.RowAt.{RowAt}
 use Rattle.row_leaves.specs.Turns.{RowThere, RowWritten, TurnedTo}

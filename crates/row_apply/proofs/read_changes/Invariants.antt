@@ -2,7 +2,7 @@
 -- Assumes nothing.
 use Prim.Native.Nat.{◌-◌}
 use lib.ListN.{length}
-use Rattle.row_apply.proofs.Closing.{ReadUpTo, none_is_read, one_more_is_read, all_are_read}
+use Rattle.row_apply.proofs.Closing.{ReadUpTo}
 use Rattle.row_apply.proofs.read_changes.Given as goal
 
 abbrev pub invariant-loop-i : goal.invariant-loop-i

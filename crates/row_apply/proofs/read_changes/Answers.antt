@@ -1,9 +1,7 @@
 -- `row_apply::read_changes` meets its contract.
 -- Assumes nothing.
 use Rattle.std.proofs.Common.{rules}
-use Prim.Native.Nat.{◌-◌}
-use lib.ListN.{length}
-use Rattle.row_apply.proofs.Closing.{ReadUpTo, none_is_read, one_more_is_read, all_are_read}
+use Rattle.row_apply.proofs.Closing.{none_is_read, one_more_is_read, all_are_read}
 use Rattle.row_apply.proofs.read_changes.Goals as goal
 
 pub loop-i-init : goal.loop-i-init
