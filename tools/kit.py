@@ -68,8 +68,8 @@ def rattle(verb, root, crate, *words, at=None, rlibs=None, jobs=1):
         made = instead.get(dep, rlib(root, dep)) if dep in listed else kit / "rlibs" / f"{dep}.rlib"
         said += ["--extern", f"{dep}={made}", "-L", f"dependency={made.parent}"]
     # what only its dependencies depend on
-    below = [c for c in with_dependencies(root, [crate]) if c not in (crate, *listed[crate])]
-    said += [word for c in below for word in ("-L", f"dependency={instead.get(c, rlib(root, c)).parent}")]
+    below = {c for dep in listed[crate] if dep in listed for c in listed[dep] if c in listed} - {crate, *listed[crate]}
+    said += [word for c in sorted(below) for word in ("-L", f"dependency={instead.get(c, rlib(root, c)).parent}")]
     said += ["--antt-project", kit / "rattle" / "logic" / "antt-project.json", "--logic-built", kit / "logic_built", "--jobs", str(jobs), *words]
     how = {"stdin": subprocess.DEVNULL, "stdout": subprocess.PIPE, "stderr": subprocess.STDOUT, "text": True, "errors": "replace"}
     return subprocess.run(said, cwd=at or root / "crates" / crate, **how)
