@@ -1,14 +1,16 @@
 -- What `cleared_from` and `cut_at` have at each place, and what number a cut spells. Assumes nothing.
 use mathlib.Core.Path.{◌≡◌, refl, sym, ◌∙◌}
 use mathlib.Core.Logic.{◌⊎◌, inl, inr}
-use mathlib.Core.List.{List, ◌∷◌}
+use mathlib.Core.List.{List, [], ◌∷◌, append-nil}
 use Prim.Native.Nat.{ℕ, zero, suc, ◌+◌, ◌-◌, ◌*◌, ◌/◌, ◌%◌, ◌^◌, ◌≤◌, ◌<◌}
 use native.Mathlib.Nat.{pow-suc, div-add-mod'}
 use native.Mathlib.Numerals.{add-one}
 use native.Mathlib.Omega.{arith}
+use borrow.Rule.Slice.PartMut.{put_mid}
+use Rattle.std.proofs.lemmas.Slice.{put_mid-paste}
 use lib.Dec.{lit<}
-use lib.ListN.{length, get_or, take, drop, set, length-append, length-replicate, get_or-append}
-use lib.Seq.{length-take-le, get_or-take, get_or_at, get_or-append-add, take_at, take-suc-set, append_snoc}
+use lib.ListN.{length, get_or, take, drop, set, length-set, drop_of_length-le, length-append, length-replicate, get_or-append}
+use lib.Seq.{take_all, length-take-le, get_or-take, get_or_at, get_or-append-add, take_at, take-suc-set, append_snoc}
 use Rattle.bit_ops.specs.Key.{Bytes, Key, num, bytes_of}
 use Rattle.bit_ops.specs.Separate.{leading}
 use Rattle.bit_ops.specs.Steps.{zeros, cleared_from, cut_at, cut_after}
@@ -88,7 +90,7 @@ module _ (b : List ℕ) (i y : ℕ) (h : i < 32) (l : length b ≡ 32) where
       let e : 32 - suc i ≡ 31 - i = omega arith in
       rw (add-one i, take-suc-set b i y (omega arith), e, append_snoc (take i b) y (zeros (31 - i)))
 
-pub cut_after_written : (k out : List ℕ) (n last : ℕ) → n < 256 → length k ≡ 32 → last ≡ 2 ^ (7 - n % 8)
+cut_after_written : (k out : List ℕ) (n last : ℕ) → n < 256 → length k ≡ 32 → last ≡ 2 ^ (7 - n % 8)
     → out ≡ cleared_from (set k (n / 8) (get_or k (n / 8) 0 - get_or k (n / 8) 0 % last)) (n / 8 + 1) → out ≡ cut_after k n
 unfolding cut_after
 cut_after_written k out n last h l e o =
@@ -115,3 +117,17 @@ cut_after_number b s hb h =
     ∙ rw (pow256 (31 - i), z, split, div_at 8 (8 * (31 - i)) (num (take i b)) y (num (drop (suc i) b)) j below (omega arith))
     (keep_digit 8 (8 * (31 - i)) (num (take i b)) y j (omega arith)) in
     rw (bits, ← e) (rw (length_cut b i kept in_b k) at (sym (bytes_of_num (cut_at b i kept) (bytes_cut b i kept in_b k hb.bytes byte))))
+
+-- the library's zeros from `from` on
+filled : (k x : List ℕ) (from m : ℕ) → length k ≡ 32 → m ≡ 32 - from → from ≤ 32 → x ≡ zeros m → put_mid from m k x ≡ cleared_from k from
+unfolding cleared_from
+filled k x from m l n h q =
+    let d : drop (from + m) k ≡ [] = drop_of_length-le k {i = from + m} (omega arith) in
+    let z : take m (zeros m) ≡ zeros m = take_all m (zeros m) (omega (arith, length_zeros m)) in
+    put_mid-paste from m k x (zeros m) m q refl (sym (length_zeros m)) ∙ rw (z, d, append-nil, n) refl
+
+pub cut_after_filled : (k x : List ℕ) (n last m : ℕ) → n < 256 → length k ≡ 32 → last ≡ 2 ^ (7 - n % 8) → m ≡ 32 - (n / 8 + 1) → (o : ℕ) → x ≡ zeros o → o ≡ m
+    → put_mid (n / 8 + 1) m (set k (n / 8) (get_or k (n / 8) 0 - get_or k (n / 8) 0 % last)) x ≡ cut_after k n
+cut_after_filled k x n last m h l e o p q r =
+    let y : ℕ = get_or k (n / 8) 0 - get_or k (n / 8) 0 % last in
+    cut_after_written k _ n last h l e (filled (set k (n / 8) y) x (n / 8 + 1) m (length-set k (n / 8) y ∙ l) o (omega arith) (rw r at q))

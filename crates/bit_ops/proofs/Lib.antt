@@ -5,6 +5,5 @@ pub mod Order
 pub mod SharedBits
 pub mod Digits
 pub mod Words
-pub mod Filling
 pub mod Cutting
 pub mod Separators

@@ -3,16 +3,16 @@
 use mathlib.Core.Path.{◌≡◌, sym, ap, ◌∙◌}
 use mathlib.Core.List.{List, [], ◌∷◌}
 use Prim.Native.Nat.{ℕ, ◌+◌, ◌-◌, ◌*◌, ◌^◌, ◌≤◌, ◌<◌}
-use native.Mathlib.Nat.{add-zero}
 use native.Mathlib.Decide.{ℕ_discrete, dec_lt}
 use native.Mathlib.Omega.{arith}
 use borrow.Author.Tests.{le-ltb, eq-eqb, ne_eqb}
+use Rattle.std.specs.Int.{w64, from_be_bytes}
 use lib.Bits.{bit_xor}
 use lib.Count.{count_leading_zeros}
 use lib.Dec.{ltb, eqb}
-use lib.ListN.{length, get_or, take, drop, length-drop, take-append-drop}
+use lib.ListN.{length, take, drop, length-drop, take-append-drop}
 use lib.Pow.{pow-add}
-use lib.Seq.{take-add, drop-drop, take_all, get_or-drop}
+use lib.Seq.{take-add, drop-drop, take_all}
 use Rattle.bit_ops.specs.Key.{Key, num, lt_key, eq_key}
 use Rattle.bit_ops.specs.Separate.{shared, shared_bits}
 use Rattle.bit_ops.specs.Steps.{word_at, Differing}
@@ -21,26 +21,22 @@ use Rattle.bit_ops.proofs.Order.{eq_key_of_equal, eq_key_of_different}
 use Rattle.bit_ops.proofs.SharedBits.{shared_same, shared_bits_by_xor}
 use Rattle.bit_ops.proofs.Digits.{lt_digit, shared_digit}
 
--- what the code adds up
-four : (l : List ℕ) → 4 ≤ length l → get_or l 0 0 * 16777216 + (get_or l 1 0 * 65536 + (get_or l 2 0 * 256 + get_or l 3 0)) ≡ num (take 4 l)
+-- the library's number of eight bytes, the first one the highest
+eight : (l : List ℕ) → length l ≡ 8 → from_be_bytes w64 l ≡ num l
 unfolding num
-four (a ∷ b ∷ c ∷ d ∷ l) n = omega arith
-four [] n = absurd (omega arith)
-four (a ∷ []) n = absurd (omega arith)
-four (a ∷ b ∷ []) n = absurd (omega arith)
-four (a ∷ b ∷ c ∷ []) n = absurd (omega arith)
+eight (a ∷ b ∷ c ∷ d ∷ e ∷ f ∷ g ∷ h ∷ []) n = omega arith
+eight [] n = absurd (omega arith)
+eight (a ∷ []) n = absurd (omega arith)
+eight (a ∷ b ∷ []) n = absurd (omega arith)
+eight (a ∷ b ∷ c ∷ []) n = absurd (omega arith)
+eight (a ∷ b ∷ c ∷ d ∷ []) n = absurd (omega arith)
+eight (a ∷ b ∷ c ∷ d ∷ e ∷ []) n = absurd (omega arith)
+eight (a ∷ b ∷ c ∷ d ∷ e ∷ f ∷ []) n = absurd (omega arith)
+eight (a ∷ b ∷ c ∷ d ∷ e ∷ f ∷ g ∷ []) n = absurd (omega arith)
+eight (a ∷ b ∷ c ∷ d ∷ e ∷ f ∷ g ∷ h ∷ i ∷ l) n = absurd (omega arith)
 
-module _ (xs : List ℕ) (at : ℕ) where
-  pub four_spell : (a b c d : ℕ) → at + 4 ≤ length xs → a ≡ get_or xs at 0 → b ≡ get_or xs (at + 1) 0 → c ≡ get_or xs (at + 2) 0 → d ≡ get_or xs (at + 3) 0
-      → a * 16777216 + (b * 65536 + (c * 256 + d)) ≡ num (take 4 (drop at xs))
-  four_spell a b c d l ea eb ec ed =
-      let first : get_or (drop at xs) 0 0 ≡ get_or xs at 0 = get_or-drop at xs 0 0 ∙ ap (λ (j : ℕ). get_or xs j 0) (add-zero at) in
-      rw (ea, eb, ec, ed, ← first, ← get_or-drop at xs 1 0, ← get_or-drop at xs 2 0, ← get_or-drop at xs 3 0) (four (drop at xs) (rw (length-drop at xs) (omega arith)))
-
-  pub two_halves : (x y : ℕ) → at + 8 ≤ length xs → x ≡ num (take 4 (drop at xs)) → y ≡ num (take 4 (drop (at + 4) xs)) → x * 4294967296 + y ≡ num (take 8 (drop at xs))
-  two_halves x y l ex ey =
-      let m : length (take 4 (drop (at + 4) xs)) ≡ 4 = part_length 4 (at + 4) xs (omega arith) in
-      rw (take-add 4 4 (drop at xs), drop-drop 4 at xs, num_append (take 4 (drop at xs)) (take 4 (drop (at + 4) xs)), m, ex, ey)
+pub eight_spell : (xs : List ℕ) (at : ℕ) (b : List ℕ) (r : ℕ) → at + 8 ≤ length xs → b ≡ take 8 (drop at xs) → r ≡ from_be_bytes w64 b → r ≡ num (take 8 (drop at xs))
+eight_spell xs at b r l e q = rw (q, e) (eight (take 8 (drop at xs)) (part_length 8 at xs l))
 
 -- ---- keys by words
 

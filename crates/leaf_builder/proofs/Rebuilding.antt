@@ -208,6 +208,9 @@ module _ (size : ℕ) (p : List ℕ) (from mid to : ℕ) (held : List ℕ) (v : 
     front : length (take size held) ≡ size
     front = length-take-le size held rebuild_room
 
+    pub rebuild_front : size ≡ length (take size held)
+    rebuild_front = sym front
+
     pub rebuild_parts : PageSize size → Parts p from mid to (length (take size held))
     rebuild_parts s =
         let t = both (leb from mid && leb mid to) (leb to (count p)) all_passed.1 in

@@ -5,7 +5,7 @@ use mathlib.Core.List.{List, ◌++◌}
 use native.Mathlib.Omega.{arith}
 use native.Mathlib.Decide.{dec_le}
 use lib.Dec.{leb}
-use lib.ListN.{length, take, drop, replicate, length-append, length-take, length-drop, take-append-drop}
+use lib.ListN.{length, take, drop, length-append, length-take, length-drop, take-append-drop}
 use lib.Seq.{paste, length-take-le, take_at, drop_at, drop-drop}
 use borrow.Author.Tests.{le-leb, lt-leb}
 use Rattle.bit_ops.specs.Key.{Bytes}
@@ -13,7 +13,6 @@ use Rattle.leaf_node.specs.Page.{count, pointer, key_at, number_at, offset_at, f
 use Rattle.leaf_node.specs.Build.{le16, tagged, pointers, put}
 use Rattle.leaf_node.proofs.Lengths.{length_pointers, pointers_append, run_append}
 use Rattle.leaf_node.proofs.Laying.{keys_have_32_bytes, range_length}
-use Rattle.leaf_node.proofs.Copying.{put_all}
 use Rattle.leaf_node.proofs.RoundTrips.{pointers_of_a_range_are_one_part}
 use Rattle.leaf_builder.specs.Steps.{Shift, Chunk, pointer_moved, PointersUpTo}
 use Rattle.leaf_builder.proofs.Putting.{length_put, put_stands, put_put, put_is, put_parts}
@@ -32,16 +31,15 @@ pub key_has_32_bytes : (p : List ℕ) (i m place first at : ℕ) → Shift p i m
 unfolding key_at
 key_has_32_bytes p i m place first at s = simp (length-take, length-drop) (omega (arith, s.inside))
 
-pub pointer_put : (p d k l x y : List ℕ) (i place first at w : ℕ) → Shift p i (length d) place first at → k ≡ key_at p i → l ≡ put (replicate 32 0) 0 k → x ≡ put d place l
+pub pointer_put : (p d k x y : List ℕ) (i place first at w : ℕ) → Shift p i (length d) place first at → k ≡ key_at p i → x ≡ put d place k
     → w ≡ number_at p i → w < 65536 → y ≡ put x (place + 32) (le16 (w + at - first)) → y ≡ put d place (pointer_moved p i first at)
 unfolding offset_at flag_at
-pointer_put p d k l x y i place first at w s ek el ex ew h ey =
+pointer_put p d k x y i place first at w s ek ex ew h ey =
     let n : w + at - first ≡ tagged (at + (number_at p i % 32768 - first)) (leb 32768 (number_at p i)) =
     number_shifted w at first h (omega (arith, s.order)) (omega (arith, s.small)) ∙ rw ew in
     let number : List ℕ = le16 (tagged (at + (offset_at p i - first)) (flag_at p i)) in
     let lk : length (key_at p i) ≡ 32 = key_has_32_bytes p i (length d) place first at s in
-    let whole : l ≡ key_at p i = el ∙ put_all (replicate 32 0) k (rw ek lk) ∙ ek in
-    ey ∙ rw (n, ex, whole) (put_put d place (key_at p i) (place + 32) number (omega arith) (omega (arith, s.room)))
+    ey ∙ rw (n, ex, ek) (put_put d place (key_at p i) (place + 32) number (omega arith) (omega (arith, s.room)))
 
 -- ---- the pointers of the records before i
 

@@ -5,9 +5,9 @@ use mathlib.Core.Bool.{Bool, true, false}
 use mathlib.Core.List.{List, [], ◌∷◌, ◌++◌, append-nil}
 use native.Mathlib.Omega.{arith}
 use native.Mathlib.Nat.{sub_self, add-sub_cancel_left}
-use native.Mathlib.Numerals.{add-one}
-use lib.ListN.{length, get_or, take, drop, set, length-take, length-drop, get_or-replicate}
-use lib.Seq.{paste, paste-zero, sets-eq}
+use lib.ListN.{length, take, drop, length-take, length-drop}
+use borrow.Rule.Slice.PartMut.{put_mid}
+use Rattle.std.specs.Int.{w16, to_le_bytes}
 use Rattle.bit_ops.specs.Steps.{zeros}
 use Rattle.leaf_node.specs.Record.{Record, values, total}
 use Rattle.leaf_node.specs.Page.{count, pointer, key_at, offset_at, flag_at, start, length_at, value_at, record_at, run, records_between, values_size}
@@ -19,36 +19,28 @@ use Rattle.leaf_node.specs.declared.Cell as node
 use Rattle.leaf_node.proofs.Reading.{start_in}
 use Rattle.leaf_node.proofs.Lengths.{length_zeros, length_pointers, pointers_append, run_append}
 use Rattle.leaf_node.proofs.Laying.{starts_between, start_inside, value_length_lem, key_length, keys_have_32_bytes, values_of_a_range_are_one_part, values_size_is_a_difference, range_length}
-use Rattle.leaf_node.proofs.Copying.{put_more, put_done}
+use Rattle.leaf_node.proofs.Copying.{put_mid_is_put}
 use Rattle.leaf_builder.specs.Steps.{CellFits, Shift, Chunk, pointer_moved}
 use Rattle.leaf_builder.proofs.Putting.{put_none, put_put}
 use Rattle.leaf_builder.proofs.Pushing.{pushes_join}
 
 -- ---- zeros
 
-module _ (d : List ℕ) (from to : ℕ) where
-  pub clear_start : d ≡ paste d from (zeros (to - from)) (from - from)
-  clear_start = rw sub_self (paste-zero d from (zeros (to - from)))
-
-  module _ (x : List ℕ) (i : ℕ) (e : x ≡ paste d from (zeros (to - from)) (i - from)) (h : from ≤ i) where
-    pub clear_more : i < to → to ≤ length d → set x i 0 ≡ paste d from (zeros (to - from)) (i + 1 - from)
-    clear_more l m =
-        let z = length_zeros (to - from) in
-        let a : from + (i - from) ≡ i = omega arith in
-        let b : i - from + 1 ≡ i + 1 - from = omega arith in
-        let v : get_or (zeros (to - from)) (i - from) 0 ≡ 0 = get_or-replicate (to - from) (i - from) 0 0 (omega arith) in
-        rw (a, v, b) at (put_more d from (zeros (to - from)) x (i - from) e (omega arith) (omega arith))
-
-    pub clear_done : to ≤ i → i ≤ to → x ≡ put d from (zeros (to - from))
-    clear_done l m =
-        let z = length_zeros (to - from) in
-        put_done d from (zeros (to - from)) x (i - from) e (omega arith) (omega arith)
+-- what the library fills with zeros
+pub cleared : (d x : List ℕ) (from m o : ℕ) → x ≡ zeros o → o ≡ m → put_mid from m d x ≡ put d from (zeros m)
+cleared d x from m o e q = put_mid_is_put d from m x (zeros m) (rw q at e) (sym (length_zeros m))
 
 -- ---- numbers
 
-pub word_put : (d : List ℕ) (at w : ℕ) → at + 1 < length d → set (set d at (w % 256)) (at + 1) (w / 256) ≡ put d at (le16 w)
-unfolding put le16
-word_put d at w h = rw (add-one at) (sets-eq (w % 256 ∷ w / 256 ∷ []) d at (omega arith))
+-- the library's two bytes of a number, low byte first
+pub word_put : (d x : List ℕ) (at w : ℕ) → w < 65536 → x ≡ put d at (to_le_bytes w16 w) → x ≡ put d at (le16 w)
+unfolding le16
+word_put d x at w h e = e ∙ ap (put d at) (two w h)
+  where
+    two : (w : ℕ) → w < 65536 → ◌≡◌ {A = List ℕ} (to_le_bytes w16 w) (w % 256 ∷ w / 256 ∷ [])
+    two w h =
+        let e : w / 256 % 256 ≡ w / 256 = omega arith in
+        rw e refl
 
 pub number_flagged : (at : ℕ) (f : Bool) → f ≡ true → at + 32768 ≡ tagged at f
 unfolding tagged

@@ -4,6 +4,7 @@
 #![tactic(auto)]
 
 ghost use Rattle.std.specs.Prelude.{◌≡◌, [], ◌∷◌, ◌++◌, ◌+◌, ◌-◌, ◌≤◌, ◌<◌, length};
+ghost use Rattle.refusal.specs.Numbers.{number_of};
 ghost use Rattle.bit_ops.specs.Steps.{zeros};
 ghost use Rattle.leaf_node.specs.Limits.{PageSize};
 ghost use Rattle.leaf_node.specs.Page.{pointer, key_at, offset_at, flag_at, start, record_at, records_between};
@@ -14,7 +15,7 @@ ghost use Rattle.leaf_builder.specs.Rebuild.{rebuild_verdict, rebuild_leaves};
 use leaf_node::{
     PAGE_SIZE, cell_at, copy_in, count_of, key_at, number_at, size_between, start_at, verdict,
 };
-use refusal::{NO_SUCH_INDEX, SHORT_AREA};
+use refusal::Refusal;
 
 // ---- writing
 
@@ -23,11 +24,7 @@ pub fn clear_between(d: &mut [u8], from: usize, to: usize)
     requires { (from ≤ to) × (to ≤ length d.old) }
     ensures { d.new ≡ put d.old from (zeros (to - from)) }
 {
-    let mut i = from;
-    while i < to {
-        d[i] = 0;
-        i += 1;
-    }
+    d[from..to].fill(0);
 }
 
 // A 16-bit number at byte `at`, low byte first.
@@ -35,8 +32,7 @@ fn put_word(d: &mut [u8], at: usize, w: usize)
     requires { (at + 1 < length d.old) × (w < 65536) }
     ensures { d.new ≡ put d.old at (le16 w) }
 {
-    d[at] = (w % 256) as u8;
-    d[at + 1] = (w / 256) as u8;
+    copy_in(&(w as u16).to_le_bytes(), d, at);
 }
 
 // A pointer's number: the offset, with the top bit for a flagged value.
@@ -62,8 +58,15 @@ pub fn begin(d: &mut [u8], n: usize, total: usize) -> usize
 }
 
 // Pushes a record as number j, its value at byte `at`. Answers where the value ends.
-pub fn push_cell(d: &mut [u8], j: usize, at: usize, key: &[u8], value: &[u8], flag: bool) -> usize
-    requires { (CellFits (length d.old) j at (length value.now)) × (length key.now ≡ 32) }
+pub fn push_cell(
+    d: &mut [u8],
+    j: usize,
+    at: usize,
+    key: &[u8; 32],
+    value: &[u8],
+    flag: bool,
+) -> usize
+    requires { CellFits (length d.old) j at (length value.now) }
     ensures { (d.new ≡ pushed d.old j at (record { key = key.entry.now; value = value.now; flag = flag } ∷ [])) × (result ≡ at + length value.now) }
 {
     copy_in(key, d, 34 * j + 2);
@@ -78,10 +81,7 @@ fn push_pointer(page: &[u8], i: usize, d: &mut [u8], place: usize, first: usize,
     requires { Shift page.now i (length d.old) place first at }
     ensures { d.new ≡ put d.old place (pointer_moved page.now i first at) }
 {
-    // through a local array, which the compiler keeps in registers
-    let mut key = [0u8; 32];
-    copy_in(key_at(page, i), &mut key, 0);
-    copy_in(&key, d, place);
+    copy_in(key_at(page, i), d, place);
     put_word(d, place + 32, number_at(page, i) + at - first);
 }
 
@@ -99,12 +99,10 @@ fn move_pointers(
     requires { (Chunk page.now from to (length d.old) j at) × (first ≡ start page.now from) }
     ensures { d.new ≡ put d.old (pointer j) (pointers at (records_between page.now from to)) }
 {
-    let mut i = from;
     let mut place = 34 * j + 2;
-    while i < to {
+    for i in from..to {
         push_pointer(page, i, d, place, first, at);
         place += 34;
-        i += 1;
     }
 }
 
@@ -154,13 +152,11 @@ fn push_cells(page: &[u8], from: usize, to: usize, d: &mut [u8], j: usize, at: u
     requires { Chunk page.now from to (length d.old) j at }
     ensures { (d.new ≡ pushed d.old j at (records_between page.now from to)) × (result ≡ at + (start page.now to - start page.now from)) }
 {
-    let mut i = from;
     let mut k = j;
     let mut next = at;
-    while i < to {
+    for i in from..to {
         next = push_record(page, i, d, k, next);
         k += 1;
-        i += 1;
     }
     next
 }
@@ -176,38 +172,48 @@ fn build_parts(page: &[u8], from: usize, mid: usize, to: usize, d: &mut [u8])
     push_chunk(page, mid, to, d, mid - from, next);
 }
 
-// The refusal of `rebuild` into an area of `room` bytes, or 0.
-fn rebuild_verdict(page: &[u8], size: usize, from: usize, mid: usize, to: usize, room: usize) -> u8
+// What refuses `rebuild` into an area of `room` bytes.
+fn rebuild_verdict(
+    page: &[u8],
+    size: usize,
+    from: usize,
+    mid: usize,
+    to: usize,
+    room: usize,
+) -> Result<(), Refusal>
     requires { PageSize size }
-    ensures { result ≡ rebuild_verdict size page.now from mid to room }
+    ensures { number_of result ≡ rebuild_verdict size page.now from mid to room }
 {
-    let v = verdict(page, size);
-    if v != 0 {
-        return v;
-    }
+    verdict(page, size)?;
     if mid < from {
-        return NO_SUCH_INDEX;
+        return Err(Refusal::NoSuchIndex);
     }
     if to < mid {
-        return NO_SUCH_INDEX;
+        return Err(Refusal::NoSuchIndex);
     }
     if count_of(page) < to {
-        return NO_SUCH_INDEX;
+        return Err(Refusal::NoSuchIndex);
     }
-    if room < size { SHORT_AREA } else { 0 }
+    if room < size {
+        return Err(Refusal::ShortArea);
+    }
+    Ok(())
 }
 
 // Builds the page of records `from` up to `to` of a page in the first bytes of out, records before `mid` cell by cell and
-// the others as one chunk; an empty range builds the empty page. Answers 0; a refusal leaves out as it was.
-pub fn rebuild(page: &[u8], from: usize, mid: usize, to: usize, out: &mut [u8]) -> u8
-    ensures value { result ≡ rebuild_verdict 4096 page.now from mid to (length out.old) }
+// the others as one chunk; an empty range builds the empty page. A refusal leaves out as it was.
+pub fn rebuild(
+    page: &[u8],
+    from: usize,
+    mid: usize,
+    to: usize,
+    out: &mut [u8],
+) -> Result<(), Refusal>
+    ensures value { number_of result ≡ rebuild_verdict 4096 page.now from mid to (length out.old) }
     ensures out_after { out.new ≡ rebuild_leaves 4096 page.now from mid to out.old }
 {
-    let v = rebuild_verdict(page, PAGE_SIZE, from, mid, to, out.len());
-    if v != 0 {
-        return v;
-    }
-    let start = 0;
-    build_parts(page, from, mid, to, &mut out[start..PAGE_SIZE]);
-    0
+    rebuild_verdict(page, PAGE_SIZE, from, mid, to, out.len())?;
+    let size = PAGE_SIZE;
+    build_parts(page, from, mid, to, &mut out[..size]);
+    Ok(())
 }

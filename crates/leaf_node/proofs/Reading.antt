@@ -1,22 +1,33 @@
 -- What the functions that read a page find, and what a good page gives them. Assumes nothing.
-use Prim.Native.Nat.{ℕ, ◌+◌, ◌-◌, ◌*◌, ◌≤◌, ◌<◌}
+use Prim.Native.Nat.{ℕ, ◌+◌, ◌-◌, ◌≤◌, ◌<◌}
 use mathlib.Core.Path.{◌≡◌, refl, sym, ◌∙◌}
-use mathlib.Core.List.{List}
-use native.Mathlib.Nat.{add-sub_cancel_left}
+use mathlib.Core.List.{List, []}
+use native.Mathlib.Nat.{sub_self, add-zero}
 use native.Mathlib.Omega.{arith}
 use native.Mathlib.Decide.{dec_lt}
 use lib.Dec.{leb}
-use lib.ListN.{length, take, drop, length-take, length-drop}
+use lib.ListN.{length, get_or, take, drop}
+use lib.Seq.{get_or-take, get_or-drop}
+use Rattle.std.specs.Int.{w16, from_le_bytes}
 use borrow.Author.Tests.{lt-ltb, le-ltb}
 use Rattle.leaf_node.specs.Limits.{PageSize, body_limit, record_limit}
-use Rattle.leaf_node.specs.Page.{count, pointer, key_at, number_at, offset_at, flag_at, start, length_at}
-use Rattle.leaf_node.specs.Good.{Good, page_verdict}
+use Rattle.leaf_node.specs.Record.{total}
+use Rattle.leaf_node.specs.Page.{word, count, pointer, number_at, offset_at, flag_at, start, length_at, values_size, records_between, run}
+use Rattle.leaf_node.specs.Good.{KeysRise, Good, page_verdict}
 use Rattle.leaf_node.specs.Cell.{cell_at}
-use Rattle.leaf_node.specs.Steps.{Readable, Laid, Sorted}
+use Rattle.leaf_node.specs.Steps.{Readable, Laid, Sorted, Counted}
 use Rattle.leaf_node.specs.declared.Cell.{Cell}
 use Rattle.leaf_node.proofs.Verdicts.{accepted_pages_are_the_good_ones}
 
 -- ---- parts of a page
+
+-- the library's number of two bytes, the first one the lowest
+pub word_is : (p : List ℕ) (at : ℕ) (b : List ℕ) (w : ℕ) → b ≡ take 2 (drop at p) → w ≡ from_le_bytes w16 b → w ≡ word p at
+unfolding word
+word_is p at b w e q =
+    let x : get_or b 0 0 ≡ get_or p at 0 = rw (e, get_or-take 2 (drop at p) 0 0 (omega arith), get_or-drop at p 0 0, add-zero) refl in
+    let y : get_or b 1 0 ≡ get_or p (at + 1) 0 = rw (e, get_or-take 2 (drop at p) 1 0 (omega arith), get_or-drop at p 1 0) refl in
+    rw (q, x, y) (omega arith)
 
 pub start_in : (p : List ℕ) (n i r : ℕ) → n ≡ count p → i < n → r ≡ offset_at p i → r ≡ start p i
 unfolding start
@@ -25,13 +36,6 @@ start_in p n i r e h q = simp (lt-ltb i (count p) (omega arith), q)
 pub start_end : (p : List ℕ) (n i : ℕ) → n ≡ count p → n ≤ i → length p ≡ start p i
 unfolding start
 start_end p n i e h = simp (le-ltb i (count p) (omega arith))
-
-pub key_is : (p : List ℕ) (i : ℕ) → take (34 * i + 2 + 32 - (34 * i + 2)) (drop (34 * i + 2) p) ≡ key_at p i
-unfolding key_at
-key_is p i = rw add-sub_cancel_left
-
-pub key_long : (p : List ℕ) (i : ℕ) → pointer (i + 1) ≤ length p → length (take (34 * i + 2 + 32 - (34 * i + 2)) (drop (34 * i + 2) p)) ≡ 32
-key_long p i h = rw add-sub_cancel_left (simp (length-take, length-drop) (omega arith))
 
 pub cell_is : (p : List ℕ) (i a b w : ℕ) → a ≡ start p i → b ≡ start p (i + 1) → w ≡ number_at p i
     → ◌≡◌ {A = Cell} (record { offset = a; len = b - a; flag = leb 32768 w }) (cell_at p i)
@@ -86,3 +90,37 @@ module _ (size : ℕ) (p : List ℕ) (v : ℕ) (e : v ≡ page_verdict size p) (
 
   pub checked_rising : (n : ℕ) → n ≡ count p → Sorted p n
   checked_rising n q = rw q (good_pages_rise size p s checked)
+
+  pub checked_keys : (n : ℕ) → 0 < n → KeysRise p
+  checked_keys n h = checked.keys
+
+  pub checked_counted : (n : ℕ) → n ≡ count p → Counted p n
+  checked_counted n q = record { counted = q; laid = λ h. checked_laid n q; short = omega (arith, checked.sized, s.most) }
+
+-- ---- a page with its records
+
+module _ (p : List ℕ) (n : ℕ) (c : Counted p n) where
+  pub counted_laid : (i : ℕ) → i < n → Laid p n
+  counted_laid i h = c.laid (omega arith)
+
+  pub counted_readable : (i : ℕ) → i < n → Readable p i
+  counted_readable i h =
+      let l = counted_laid i h in
+      record { inside = omega (arith, l.inside, c.counted); there = omega (arith, c.counted); step = l.steps i h }
+
+  pub counted_pointer : (i : ℕ) → i < n → pointer (i + 1) ≤ length p
+  counted_pointer i h = omega (arith, (counted_laid i h).inside)
+
+  pub counted_some : (from to : ℕ) → from ≤ to → (from ≡ to → ⊥) → to ≤ n → Laid p n
+  counted_some from to l e h = c.laid (omega arith)
+
+  pub counted_sorted : (from : ℕ) → from < n → KeysRise p → Sorted p n
+  counted_sorted from h r = record { counted = c.counted; inside = (counted_laid from h).inside; rise = r }
+
+pub nothing_between : (p : List ℕ) (from to : ℕ) → from ≡ to → 0 ≡ values_size p from to
+unfolding values_size records_between run total
+nothing_between p from to e = rw (e, sub_self) refl
+
+pub nothing_counted : record { counted : Counted [] 0 }
+unfolding count word
+nothing_counted = record { counted = record { counted = refl; laid = λ h. absurd (omega arith); short = omega arith } }

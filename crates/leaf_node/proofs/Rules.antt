@@ -182,18 +182,29 @@ pub values_done : (size : ℕ) (p : List ℕ) (n : ℕ) → n ≡ count p → (i
 unfolding values_fit
 values_done size p n e i l m a = sym (ap (λ (k : ℕ). all_below k (value_fits size p)) (omega arith) ∙ a)
 
-module _ (p : List ℕ) (i : ℕ) (x y : List ℕ) (t : Bool) (q₁ : x ≡ key_at p i) (q₂ : y ≡ key_at p (i + 1)) (q : t ≡ lt_key x y) where
-  pub keys_not : (n : ℕ) → n ≡ count p → i + 1 < n → not t ≡ true → false ≡ keys_rise p
+-- i is the later of two neighbours
+module _ (p : List ℕ) (i : ℕ) (l : 1 ≤ i) (x y : List ℕ) (t : Bool) (q₁ : x ≡ key_at p (i - 1)) (q₂ : y ≡ key_at p i) (q : t ≡ lt_key x y) where
+  next : i - 1 + 1 ≡ i
+  next = omega arith
+
+  pub keys_not : (n : ℕ) → n ≡ count p → i < n → not t ≡ true → false ≡ keys_rise p
   unfolding lt_key
-  keys_not n e l h =
+  keys_not n e m h =
       sym (fails _ (λ z.
-      let a : ltb (num x) (num y) ≡ true = rw (q₁, q₂) (lt-ltb (num (key_at p i)) (num (key_at p (i + 1))) (keys_rise_rule p z i (omega arith))) in
+      let s = keys_rise_rule p z (i - 1) (omega arith) in
+      let r : num (key_at p (i - 1)) < num (key_at p i) = rw next at s in
+      let a : ltb (num x) (num y) ≡ true = rw (q₁, q₂) (lt-ltb _ _ r) in
       true_is_not_false a (sym q ∙ not-true t h)))
 
-  pub keys_more : all_below i (key_step p) ≡ true → not t ≡ false → all_below (i + 1) (key_step p) ≡ true
+  pub keys_more : all_below (i - 1) (key_step p) ≡ true → not t ≡ false → all_below (i + 1 - 1) (key_step p) ≡ true
   unfolding key_step
-  keys_more a h = all_more i (key_step p) a (rw (← q₁, ← q₂, ← q) (not-false t h))
+  keys_more a h =
+      let m = all_more (i - 1) (key_step p) a (rw (next, ← q₁, ← q₂, ← q) (not-false t h)) in
+      ap (λ (k : ℕ). all_below k (key_step p)) (omega arith) ∙ m
 
-pub keys_done : (p : List ℕ) (n : ℕ) → n ≡ count p → (i : ℕ) → i ≤ n - 1 → n ≤ i + 1 → all_below i (key_step p) ≡ true → true ≡ keys_rise p
-unfolding keys_rise
-keys_done p n e i l m a = sym (ap (λ (k : ℕ). all_below k (key_step p)) (omega arith) ∙ a)
+pub keys_done : (p : List ℕ) (n : ℕ) → n ≡ count p → (i : ℕ) → n ≤ i → (1 ≤ n → i ≤ n) → all_below (i - 1) (key_step p) ≡ true → true ≡ keys_rise p
+unfolding keys_rise all_below
+keys_done p zero e i m h a = rw (← e) refl
+keys_done p (suc n) e i m h a =
+    let k : i ≤ suc n = h (omega arith) in
+    sym (ap (λ (k : ℕ). all_below k (key_step p)) (omega arith) ∙ a)

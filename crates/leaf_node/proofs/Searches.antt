@@ -9,12 +9,12 @@ use native.Mathlib.Decide.{dec_lt}
 use native.Mathlib.Nat.{not-suc-le-zero, le_of_suc-le-suc, eq-or-lt_of_le}
 use native.Mathlib.Numerals.{add-one}
 use lib.Dec.{ltb, eqb}
+use Rattle.std.specs.Prelude.{Ok, Err}
 use lib.ListN.{get_or, take, drop, length-take, length-drop, get_or-eq_default}
 use lib.Seq.{get_or-take, get_or-drop}
 use borrow.Author.Tests.{lt-ltb, le-ltb, eq-eqb, ne_eqb, ltb-true, ltb-false, eqb-true}
 use Rattle.bit_ops.specs.Key.{Bytes, Key, num, lt_key, eq_key}
 use Rattle.bit_ops.proofs.Order.{equal_numbers_are_equal_keys}
-use Rattle.leaf_node.specs.declared.Place.TheVariants.{Found, Absent}
 use Rattle.leaf_node.specs.Limits.{PageSize}
 use Rattle.leaf_node.specs.Page.{count, pointer, key_at}
 use Rattle.leaf_node.specs.Good.{KeysRise, Good}
@@ -123,18 +123,18 @@ module _ (p : List ℕ) (n from : ℕ) (k : List ℕ) (r : ℕ) (c : n ≡ count
   e' : place_from p (count p - from) from k ≡ r
   e' = rw (← c) (sym e)
 
-  pub search_past : n ≤ r → Absent r ≡ search_of p from k
+  pub search_past : n ≤ r → Err r ≡ search_of p from k
   unfolding search_of
   search_past h = rw (e', le-ltb r (count p) (omega arith))
 
   module _ (h : from ≤ n) (l : r < n) (x : List ℕ) (t : Bool) (q : x ≡ key_at p r) (w : t ≡ lt_key k x) where
-    pub search_none : t ≡ true → Absent r ≡ search_of p from k
+    pub search_none : t ≡ true → Err r ≡ search_of p from k
     unfolding search_of eq_key lt_key
     search_none z =
         let m : num k < num (key_at p r) = rw q at (ltb-true (num k) (num x) (sym w ∙ z)) in
         rw (e', lt-ltb r (count p) (omega arith), ne_eqb (num (key_at p r)) (num k) (λ y. omega arith))
 
-    pub search_some : t ≡ false → Found r ≡ search_of p from k
+    pub search_some : t ≡ false → Ok r ≡ search_of p from k
     unfolding search_of eq_key lt_key
     search_some z =
         let m : num (key_at p r) ≤ num k = rw q at (ltb-false (num k) (num x) (sym w ∙ z)) in
@@ -144,7 +144,7 @@ module _ (p : List ℕ) (n from : ℕ) (k : List ℕ) (r : ℕ) (c : n ≡ count
 
 -- ---- what the place says of the page's keys
 
-told : (t : Bool) (r : ℕ) → (place_index (cond t (Found r) (Absent r)) ≡ r) × (is_found (cond t (Found r) (Absent r)) ≡ t)
+told : (t : Bool) (r : ℕ) → (place_index (cond t (Ok r) (Err r)) ≡ r) × (is_found (cond t (Ok r) (Err r)) ≡ t)
 told true r = (refl, refl)
 told false r = (refl, refl)
 
@@ -170,10 +170,10 @@ module _ (p : List ℕ) (from : ℕ) (k : List ℕ) where
         at = λ x. a.at (omega arith);
       } in
       let e : place_from p (count p - from) from k ≡ place_from p (count p - 0) 0 k = parts_one p k 0 (0 + (count p - 0)) _ _ b (place_parts p k (count p - 0) 0) in
-      ap (λ (i : ℕ). cond (ltb i (count p) && eq_key (key_at p i) k) (Found i) (Absent i)) e
+      ap (λ (i : ℕ). cond (ltb i (count p) && eq_key (key_at p i) k) (Ok i) (Err i)) e
 
 module _ (p : List ℕ) (from : ℕ) (k : List ℕ) (i : ℕ) where
-  pub found_is : search_of p from k ≡ Found i → (place_from p (count p - from) from k ≡ i) × (i < count p) × (num (key_at p i) ≡ num k)
+  pub found_is : search_of p from k ≡ Ok i → (place_from p (count p - from) from k ≡ i) × (i < count p) × (num (key_at p i) ≡ num k)
   unfolding search_of eq_key
   found_is e =
       let r : ℕ = place_from p (count p - from) from k in
@@ -183,7 +183,7 @@ module _ (p : List ℕ) (from : ℕ) (k : List ℕ) (i : ℕ) where
       let b = both (ltb r (count p)) (eqb (num (key_at p r)) (num k)) y in
       (z, rw z at (ltb-true r (count p) b.0), rw z at (eqb-true (num (key_at p r)) (num k) b.1))
 
-  absent_is : search_of p from k ≡ Absent i → (place_from p (count p - from) from k ≡ i) × (i < count p → num (key_at p i) ≡ num k → ⊥)
+  absent_is : search_of p from k ≡ Err i → (place_from p (count p - from) from k ≡ i) × (i < count p → num (key_at p i) ≡ num k → ⊥)
   unfolding search_of eq_key
   absent_is e =
       let r : ℕ = place_from p (count p - from) from k in
@@ -213,13 +213,13 @@ module _ (size : ℕ) (p : List ℕ) (s : PageSize size) (g : Good size p) (from
       past : (j : ℕ) → 32 ≤ j → get_or (take 32 (drop (pointer i) p)) j 0 ≡ 0
       past j h = get_or-eq_default (take 32 (drop (pointer i) p)) 0 {n = j} (simp length-take (omega arith))
 
-  pub a_found_key_stands_at_its_index : Bytes p → Key k → search_of p from k ≡ Found i → (from ≤ i) × (i < count p) × (key_at p i ≡ k)
+  pub a_found_key_stands_at_its_index : Bytes p → Key k → search_of p from k ≡ Ok i → (from ≤ i) × (i < count p) × (key_at p i ≡ k)
   a_found_key_stands_at_its_index b h e =
       let f = found_is p from k i e in
       let a : Parts p k from (from + (count p - from)) i = rw f.0 at (place_parts p k (count p - from) from) in
       (a.low, f.1, equal_numbers_are_equal_keys (key_at p i) k (key_of b f.1) h f.2)
 
-  module _ (e : search_of p from k ≡ Absent i) where
+  module _ (e : search_of p from k ≡ Err i) where
     absent_parts : Parts p k from (from + (count p - from)) i
     absent_parts = rw (absent_is p from k i e).0 at (place_parts p k (count p - from) from)
 

@@ -1,5 +1,6 @@
 -- What the functions below the public calls require of a page, as plain facts; `proofs/Reading.antt` has them of every good page.
 use Rattle.std.specs.Prelude.{ℕ, ◌+◌, ◌≤◌, ◌<◌, ◌≡◌, List, length}
+use Rattle.leaf_node.specs.Limits.{most_page_bytes}
 use Rattle.leaf_node.specs.Page.{count, pointer, start}
 use Rattle.leaf_node.specs.Good.{KeysRise}
 
@@ -25,3 +26,9 @@ pub record Sorted (p : List ℕ) (n : ℕ) : Type 0 where
   pub counted : n ≡ count p
   pub inside : pointer n ≤ length p
   pub rise : KeysRise p
+
+-- the page has n records, their values one behind the other; a page that is ignored has none
+pub record Counted (p : List ℕ) (n : ℕ) : Type 0 where
+  pub counted : n ≡ count p
+  pub laid : 0 < n → Laid p n
+  pub short : length p ≤ most_page_bytes

@@ -14,6 +14,7 @@
 #![tactic(auto)]
 
 ghost use Rattle.std.specs.Prelude.{◌≡◌, ◌+◌, ◌-◌, ◌^◌, ◌≤◌, ◌<◌, length};
+ghost use Rattle.refusal.specs.Numbers.{number_of};
 ghost use Rattle.leaf_node.specs.Limits.{PageSize};
 ghost use Rattle.leaf_node.specs.Page.{word, count, pointer, key_at, number_at, offset_at, flag_at, start, length_at, values_size};
 ghost use Rattle.leaf_node.specs.Good.{offsets_right, values_fit, keys_rise, page_verdict};
@@ -22,8 +23,11 @@ ghost use Rattle.leaf_node.specs.Cell.{cell_at};
 ghost use Rattle.leaf_node.specs.Build.{put};
 ghost use Rattle.leaf_node.specs.Steps.{Pointed, Readable, Laid, Sorted};
 
-use bit_ops::less;
-use refusal::{BAD_OFFSETS, KEYS_NOT_RISING, LONG_PAGE_VALUE, PAGE_LENGTH, TOO_MANY_RECORDS};
+mod records;
+
+use bit_ops::{bytes_from, less};
+pub use records::LeafNode;
+use refusal::Refusal;
 
 // The page size of the public calls; every other function takes the size that the page has.
 pub const PAGE_SIZE: usize = 4096;
@@ -36,28 +40,14 @@ pub struct Cell {
     pub flag: bool,
 }
 
-// Where a key stands among the records: at an index, or absent, with the index at which it would stand.
-#[derive(Clone, Copy)]
-pub enum Place {
-    Found(usize),
-    Absent(usize),
-}
-
 // ---- reading the parts of a page
-
-// A byte as a size: where a cast stands by itself, its need closes by itself.
-fn wide(x: u8) -> usize
-    ensures { (result ≡ x) × (result < 256) }
-{
-    x as usize
-}
 
 // The 16-bit number at byte `at`, low byte first.
 fn word_at(page: &[u8], at: usize) -> usize
     requires { at + 1 < length page.now }
     ensures { (result ≡ word page.now at) × (result < 65536) }
 {
-    wide(page[at]) + 256 * wide(page[at + 1])
+    usize::from(u16::from_le_bytes(*bytes_from(page, at)))
 }
 
 // The number of records.
@@ -97,12 +87,12 @@ pub fn start_at(page: &[u8], n: usize, i: usize) -> usize
 }
 
 // Key i, as a part of the page.
-pub fn key_at(page: &[u8], i: usize) -> &[u8]
+pub fn key_at(page: &[u8], i: usize) -> &[u8; 32]
     requires { pointer (i + 1) ≤ length page.now }
-    ensures { (result.now ≡ key_at page.now i) × (length result.now ≡ 32) }
+    ensures { result.now ≡ key_at page.now i }
 {
     let at = 34 * i + 2;
-    &page[at..at + 32]
+    bytes_from(page, at)
 }
 
 // Value i: offset, length and flag.
@@ -129,8 +119,7 @@ fn offsets_right(page: &[u8], n: usize) -> bool
     ensures { result ≡ offsets_right page.now }
 {
     let mut low = 34 * n + 2;
-    let mut i = 0;
-    while i < n {
+    for i in 0..n {
         let offset = offset_at(page, i);
         if offset < low {
             return false;
@@ -139,7 +128,6 @@ fn offsets_right(page: &[u8], n: usize) -> bool
             return false;
         }
         low = offset;
-        i += 1;
     }
     true
 }
@@ -150,12 +138,10 @@ fn values_fit(page: &[u8], n: usize, size: usize) -> bool
     ensures { result ≡ values_fit size page.now }
 {
     let most = (size - 2) / 3 - 32;
-    let mut i = 0;
-    while i < n {
+    for i in 0..n {
         if start_at(page, n, i) + most < start_at(page, n, i + 1) {
             return false;
         }
-        i += 1;
     }
     true
 }
@@ -165,43 +151,41 @@ fn keys_rise(page: &[u8], n: usize) -> bool
     requires { Pointed page.now n }
     ensures { result ≡ keys_rise page.now }
 {
-    let mut i = 0;
-    while i + 1 < n {
-        if !less(key_at(page, i), key_at(page, i + 1)) {
+    for i in 1..n {
+        if !less(key_at(page, i - 1), key_at(page, i)) {
             return false;
         }
-        i += 1;
     }
     true
 }
 
-// The lowest refusal that a page earns as one of `size` bytes, 0 for a good page.
-pub fn verdict(page: &[u8], size: usize) -> u8
+// The lowest refusal that a page earns as one of `size` bytes.
+pub fn verdict(page: &[u8], size: usize) -> Result<(), Refusal>
     requires { PageSize size }
-    ensures { result ≡ page_verdict size page.now }
+    ensures { number_of result ≡ page_verdict size page.now }
 {
     if page.len() != size {
-        return PAGE_LENGTH;
+        return Err(Refusal::PageLength);
     }
     let n = count_of(page);
     if (size - 2) / 34 < n {
-        return TOO_MANY_RECORDS;
+        return Err(Refusal::TooManyRecords);
     }
     if !offsets_right(page, n) {
-        return BAD_OFFSETS;
+        return Err(Refusal::BadOffsets);
     }
     if !values_fit(page, n, size) {
-        return LONG_PAGE_VALUE;
+        return Err(Refusal::LongPageValue);
     }
     if !keys_rise(page, n) {
-        return KEYS_NOT_RISING;
+        return Err(Refusal::KeysNotRising);
     }
-    0
+    Ok(())
 }
 
-// The check of a page: 0, or its refusal.
-pub fn check(page: &[u8]) -> u8
-    ensures { result ≡ page_verdict 4096 page.now }
+// The check of a page.
+pub fn check(page: &[u8]) -> Result<(), Refusal>
+    ensures { number_of result ≡ page_verdict 4096 page.now }
 {
     verdict(page, PAGE_SIZE)
 }
@@ -213,11 +197,7 @@ pub fn copy_in(src: &[u8], dst: &mut [u8], at: usize)
     requires { at + length src.now ≤ length dst.old }
     ensures { dst.new ≡ put dst.old at src.now }
 {
-    let mut j = 0;
-    while j < src.len() {
-        dst[at + j] = src[j];
-        j += 1;
-    }
+    dst[at..at + src.len()].copy_from_slice(src);
 }
 
 // The value bytes of records `from` up to `to`: their values lie one after the other.
@@ -231,9 +211,9 @@ pub fn size_between(page: &[u8], n: usize, from: usize, to: usize) -> usize
 // ---- the key search
 
 // The first of the records from `from` on whose key isn't below `key`, or n. It halves: lo and hi bracket the answer,
-// and each turn halves hi - lo.
-fn place_from(page: &[u8], n: usize, from: usize, key: &[u8]) -> usize
-    requires { (Sorted page.now n) × (from ≤ n) × (length key.now ≡ 32) }
+// and each turn halves hi - lo. Keys lie in a page at pointers' places, so that they are no slice for `partition_point`.
+fn place_from(page: &[u8], n: usize, from: usize, key: &[u8; 32]) -> usize
+    requires { (Sorted page.now n) × (from ≤ n) }
     ensures { (result ≡ place_from page.now (n - from) from key.now) × (result ≤ n) }
 {
     let mut lo = from;
@@ -249,17 +229,18 @@ fn place_from(page: &[u8], n: usize, from: usize, key: &[u8]) -> usize
     lo
 }
 
-// Where a key stands among the records from `from` on. Rising keys make one place of it.
-pub fn search(page: &[u8], n: usize, from: usize, key: &[u8]) -> Place
-    requires { (Sorted page.now n) × (from ≤ n) × (length key.now ≡ 32) }
+// Where a key stands among the records from `from` on: at an index, or absent, with the index at which it would stand, as a
+// slice's `binary_search` has it. Rising keys make one place of it.
+pub fn search(page: &[u8], n: usize, from: usize, key: &[u8; 32]) -> Result<usize, usize>
+    requires { (Sorted page.now n) × (from ≤ n) }
     ensures { result ≡ search_of page.now from key.now }
 {
     let i = place_from(page, n, from, key);
     if n <= i {
-        return Place::Absent(i);
+        return Err(i);
     }
     if less(key, key_at(page, i)) {
-        return Place::Absent(i);
+        return Err(i);
     }
-    Place::Found(i)
+    Ok(i)
 }

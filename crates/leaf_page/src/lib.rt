@@ -2,12 +2,13 @@
 // refusal has its number and zeros in every other field.
 #![tactic(auto)]
 
-ghost use Rattle.std.specs.Prelude.{◌≡◌, cond};
+ghost use Rattle.std.specs.Prelude.{◌≡◌};
+ghost use Rattle.refusal.specs.Numbers.{number, numbered};
 ghost use Rattle.leaf_read.specs.Reply.{key_reply, value_reply, get_reply, size_reply};
 ghost use Rattle.leaf_page.specs.Reply.{key_out, refused_value, found_value, value_out, get_out, size_out};
 
 use leaf_node::Cell;
-use leaf_read::{GetReply, KeyReply, SizeReply, ValueReply};
+use refusal::Refusal;
 
 #[repr(C)]
 #[derive(Clone, Copy)]
@@ -36,13 +37,17 @@ pub struct LeafSize {
     pub bytes: usize,
 }
 
-fn key_out(reply: KeyReply) -> LeafKey
-    ensures { result ≡ key_out reply }
-{
-    let key = reply.key;
-    LeafKey {
-        refusal: reply.refusal,
-        key: key,
+impl From<Result<[u8; 32], Refusal>> for LeafKey {
+    ghost from_gives = { λ reply out. out ≡ key_out (numbered reply) };
+
+    fn from(reply: Result<[u8; 32], Refusal>) -> LeafKey {
+        match reply {
+            Ok(key) => LeafKey { refusal: 0, key },
+            Err(refusal) => LeafKey {
+                refusal: u8::from(refusal), // the key of a refusal is zeros
+                key: [0; 32],
+            },
+        }
     }
 }
 
@@ -50,21 +55,14 @@ fn key_out(reply: KeyReply) -> LeafKey
 pub fn key(page: &[u8], i: usize) -> LeafKey
     ensures { result ≡ key_out (key_reply 4096 page.now i) }
 {
-    key_out(leaf_read::key(page, i))
+    LeafKey::from(leaf_read::key(page, i))
 }
 
-// A flag as a number.
-pub fn bit(flag: bool) -> u8
-    ensures { result ≡ cond flag 1 0 }
-{
-    if flag { 1 } else { 0 }
-}
-
-fn refused_value(n: u8) -> LeafValue
-    ensures { result ≡ refused_value n }
+fn refused_value(refusal: u8) -> LeafValue
+    ensures { result ≡ refused_value refusal }
 {
     LeafValue {
-        refusal: n,
+        refusal,
         absent: 0,
         flag: 0,
         offset: 0,
@@ -73,25 +71,37 @@ fn refused_value(n: u8) -> LeafValue
     }
 }
 
-fn found_value(c: Cell) -> LeafValue
-    ensures { result ≡ found_value c }
-{
-    LeafValue {
-        refusal: 0,
-        absent: 0,
-        flag: bit(c.flag),
-        offset: c.offset,
-        len: c.len,
-        position: 0, // a found key's index isn't asked for
+impl From<Refusal> for LeafValue {
+    ghost from_gives = { λ refusal out. out ≡ refused_value (number refusal) };
+
+    fn from(refusal: Refusal) -> LeafValue {
+        refused_value(u8::from(refusal))
     }
 }
 
-fn value_out(reply: ValueReply) -> LeafValue
-    ensures { result ≡ value_out reply }
-{
-    match reply {
-        ValueReply::Refused(n) => refused_value(n),
-        ValueReply::At(c) => found_value(c),
+impl From<Cell> for LeafValue {
+    ghost from_gives = { λ cell out. out ≡ found_value cell };
+
+    fn from(cell: Cell) -> LeafValue {
+        LeafValue {
+            refusal: 0,
+            absent: 0,
+            flag: u8::from(cell.flag),
+            offset: cell.offset,
+            len: cell.len,
+            position: 0, // a found key's index isn't asked for
+        }
+    }
+}
+
+impl From<Result<Cell, Refusal>> for LeafValue {
+    ghost from_gives = { λ reply out. out ≡ value_out (numbered reply) };
+
+    fn from(reply: Result<Cell, Refusal>) -> LeafValue {
+        match reply {
+            Ok(cell) => LeafValue::from(cell),
+            Err(refusal) => LeafValue::from(refusal),
+        }
     }
 }
 
@@ -99,23 +109,22 @@ fn value_out(reply: ValueReply) -> LeafValue
 pub fn value(page: &[u8], i: usize) -> LeafValue
     ensures { result ≡ value_out (value_reply 4096 page.now i) }
 {
-    value_out(leaf_read::value(page, i))
+    LeafValue::from(leaf_read::value(page, i))
 }
 
-fn get_out(reply: GetReply) -> LeafValue
-    ensures { result ≡ get_out reply }
-{
-    match reply {
-        GetReply::Refused(n) => refused_value(n),
-        GetReply::Absent(i) => LeafValue {
-            refusal: 0,
-            absent: 1,
-            flag: 0,
-            offset: 0,
-            len: 0,
-            position: i,
-        },
-        GetReply::At(c) => found_value(c),
+impl From<Result<Result<Cell, usize>, Refusal>> for LeafValue {
+    ghost from_gives = { λ reply out. out ≡ get_out (numbered reply) };
+
+    fn from(reply: Result<Result<Cell, usize>, Refusal>) -> LeafValue {
+        match reply {
+            Ok(Ok(cell)) => LeafValue::from(cell),
+            Ok(Err(position)) => LeafValue {
+                absent: 1,
+                position,
+                ..refused_value(0)
+            },
+            Err(refusal) => LeafValue::from(refusal), // of a bad page
+        }
     }
 }
 
@@ -123,21 +132,20 @@ fn get_out(reply: GetReply) -> LeafValue
 pub fn get(page: &[u8], key: &[u8; 32]) -> LeafValue
     ensures { result ≡ get_out (get_reply 4096 page.now key.now) }
 {
-    get_out(leaf_read::get(page, key))
+    LeafValue::from(leaf_read::get(page, key))
 }
 
-fn size_out(reply: SizeReply) -> LeafSize
-    ensures { result ≡ size_out reply }
-{
-    match reply {
-        SizeReply::Refused(n) => LeafSize {
-            refusal: n,
-            bytes: 0,
-        },
-        SizeReply::Bytes(b) => LeafSize {
-            refusal: 0,
-            bytes: b,
-        },
+impl From<Result<usize, Refusal>> for LeafSize {
+    ghost from_gives = { λ reply out. out ≡ size_out (numbered reply) };
+
+    fn from(reply: Result<usize, Refusal>) -> LeafSize {
+        match reply {
+            Ok(bytes) => LeafSize { refusal: 0, bytes },
+            Err(refusal) => LeafSize {
+                refusal: u8::from(refusal),
+                bytes: 0,
+            },
+        }
     }
 }
 
@@ -145,5 +153,5 @@ fn size_out(reply: SizeReply) -> LeafSize
 pub fn values_size(page: &[u8], from: usize, to: usize) -> LeafSize
     ensures { result ≡ size_out (size_reply 4096 page.now from to) }
 {
-    size_out(leaf_read::values_size(page, from, to))
+    LeafSize::from(leaf_read::values_size(page, from, to))
 }

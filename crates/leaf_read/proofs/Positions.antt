@@ -7,50 +7,48 @@ use native.Mathlib.Omega.{arith}
 use lib.Dec.{eqb}
 use borrow.Author.Tests.{eqb-true}
 use Rattle.bit_ops.specs.Key.{num}
+use Rattle.std.specs.Prelude.{Result, Ok, Err}
 use Rattle.leaf_node.specs.Limits.{PageSize}
 use Rattle.leaf_node.specs.Record.{Record}
 use Rattle.leaf_node.specs.Page.{count, key_at, record_at, run, records_between, records}
 use Rattle.leaf_node.specs.Good.{page_verdict, Good}
 use Rattle.leaf_node.specs.Search.{search_of}
 use Rattle.leaf_node.specs.Fits.{All, nil, cons, Rising, rise∷}
-use Rattle.leaf_node.specs.declared.Place.{Place}
-use Rattle.leaf_node.specs.declared.Place.TheVariants.{Found, Absent}
+use Rattle.leaf_node.specs.declared.Cell.{Cell}
 use Rattle.leaf_node.proofs.Lengths.{run_append, all_run}
 use Rattle.leaf_node.proofs.Verdicts.{accepted_pages_are_the_good_ones}
 use Rattle.leaf_node.proofs.Searches.{rise_on, an_absent_key_stands_at_the_end_at_most, records_before_an_absent_key_are_below_it, records_behind_an_absent_key_are_above_it}
 use Rattle.leaf_node.proofs.RoundTrips.{rise_run}
 use Rattle.leaf_read.specs.Reply.{get_of, get_reply}
-use Rattle.leaf_read.specs.declared.GetReply.{GetReply}
-use Rattle.leaf_read.specs.declared.GetReply.TheVariants as get
 
 -- ---- the answer tells what was found
 
-position : GetReply → ℕ
-position (get.Refused n) = 0
-position (get.Absent i) = i
-position (get.At c) = 0
+position : Result (Result Cell ℕ) ℕ → ℕ
+position (Err n) = 0
+position (Ok (Err i)) = i
+position (Ok (Ok c)) = 0
 
-is_absent : GetReply → Bool
-is_absent (get.Refused n) = false
-is_absent (get.Absent i) = true
-is_absent (get.At c) = false
+is_absent : Result (Result Cell ℕ) ℕ → Bool
+is_absent (Err n) = false
+is_absent (Ok (Err i)) = true
+is_absent (Ok (Ok c)) = false
 
-absent_place : (p : List ℕ) (s : Place) (i : ℕ) → get_of p s ≡ get.Absent i → s ≡ Absent i
+absent_place : (p : List ℕ) (s : Result ℕ ℕ) (i : ℕ) → ◌≡◌ {A = Result (Result Cell ℕ) ℕ} (Ok (get_of p s)) (Ok (Err i)) → s ≡ Err i
 unfolding position is_absent
-absent_place p (Found j) i e = absurd (true≢false (sym (ap is_absent e)))
-absent_place p (Absent j) i e = ap Absent (ap position e)
+absent_place p (Ok j) i e = absurd (true≢false (sym (ap is_absent e)))
+absent_place p (Err j) i e = ap Err (ap position e)
 
 all_append : {P : Record → Type 0} {xs ys : List Record} → All P xs → All P ys → All P (xs ++ ys)
 all_append nil b = b
 all_append (cons h a) b = cons h (all_append a b)
 
-module _ (size : ℕ) (q : PageSize size) (p k : List ℕ) (i : ℕ) (e : get_reply size p k ≡ get.Absent i) where
-  answered : (page_verdict size p ≡ 0) × (search_of p 0 k ≡ Absent i)
+module _ (size : ℕ) (q : PageSize size) (p k : List ℕ) (i : ℕ) (e : get_reply size p k ≡ Ok (Err i)) where
+  answered : (page_verdict size p ≡ 0) × (search_of p 0 k ≡ Err i)
   unfolding get_reply is_absent
   answered = go (eqb (page_verdict size p) 0) refl e
     where
-      go : (b : Bool) → eqb (page_verdict size p) 0 ≡ b → cond b (get_of p (search_of p 0 k)) (get.Refused (page_verdict size p)) ≡ get.Absent i
-          → (page_verdict size p ≡ 0) × (search_of p 0 k ≡ Absent i)
+      go : (b : Bool) → eqb (page_verdict size p) 0 ≡ b → cond b (Ok (get_of p (search_of p 0 k))) (Err (page_verdict size p)) ≡ Ok (Err i)
+          → (page_verdict size p ≡ 0) × (search_of p 0 k ≡ Err i)
       go true z f = (eqb-true (page_verdict size p) 0 z, absent_place p (search_of p 0 k) i f)
       go false z f = absurd (true≢false (sym (ap is_absent f)))
 

@@ -1,2 +1,3 @@
 -- The refusal numbers, for the definitions.
 pub mod Refusal
+pub mod Numbers

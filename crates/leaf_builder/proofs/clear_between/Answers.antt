@@ -1,15 +1,8 @@
--- `leaf_builder::clear_between` meets its contract: the bytes before i are zeros.
+-- `leaf_builder::clear_between` meets its contract.
 -- Assumes nothing.
 use Rattle.std.proofs.Common.{rules}
-use mathlib.Core.Path.{refl}
-use Rattle.leaf_builder.proofs.Writing.{clear_start, clear_more, clear_done}
+use Rattle.leaf_builder.proofs.Writing.{cleared}
 use Rattle.leaf_builder.proofs.clear_between.Goals as goal
 
-pub loop-i-init : goal.loop-i-init
-loop-i-init c = (search rules, search rules, search (clear_start, rules), refl)
-
-pub loop-i-preserved : goal.loop-i-preserved
-loop-i-preserved c = (search rules, search rules, search (clear_more, rules), search rules)
-
 pub returns : goal.returns
-returns c = search (clear_done, rules)
+returns c = cleared c.args.d.now c.fill.new.self c.args.from _ _ (c.fill.ensures.after (λ y e. e)) (search rules)

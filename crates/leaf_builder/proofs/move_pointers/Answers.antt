@@ -1,7 +1,7 @@
 -- `leaf_builder::move_pointers` meets its contract: after each record the pointers up to it are final, the later ones as before.
 -- Assumes nothing.
 use Rattle.std.proofs.Common.{rules}
-use Rattle.leaf_builder.proofs.Writing.{chunk_shift, closer}
+use Rattle.leaf_builder.proofs.Writing.{chunk_shift}
 use Rattle.leaf_builder.proofs.Shifting.{no_pointer_yet, one_pointer_more, all_pointers}
 use Rattle.leaf_builder.proofs.move_pointers.Goals as goal
 
@@ -10,9 +10,6 @@ loop-i-init c = (search rules, search rules, search rules, search (no_pointer_ye
 
 pub push_pointer-requires : goal.push_pointer-requires
 push_pointer-requires c = search (chunk_shift, rules)
-
-pub loop-i-smaller : goal.loop-i-smaller
-loop-i-smaller c = search (closer, rules)
 
 pub loop-i-preserved : goal.loop-i-preserved
 loop-i-preserved c = (search rules, search rules, search rules, search (one_pointer_more, rules))

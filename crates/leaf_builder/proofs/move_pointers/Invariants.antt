@@ -8,6 +8,3 @@ use Rattle.leaf_builder.proofs.move_pointers.Given as goal
 
 abbrev pub invariant-loop-i : goal.invariant-loop-i
 invariant-loop-i l = (l.from ≤ l.i) × (l.i ≤ l.to) × (l.place ≡ pointer (l.j + (l.i - l.from))) × (PointersUpTo l.page l.from l.to l.j l.at l.initial.d l.i l.d)
-
-abbrev pub decreases-loop-i : goal.decreases-loop-i
-decreases-loop-i l = l.to - l.i

@@ -1,12 +1,13 @@
 -- `leaf_builder::rebuild_verdict` meets its contract: the tests in the order of their numbers.
 -- Assumes nothing.
 use Rattle.std.proofs.Common.{rules}
+use Rattle.refusal.proofs.Refused.{refused}
 use Rattle.leaf_node.proofs.Reading.{checked_long}
 use Rattle.leaf_builder.proofs.Rebuilding.{rebuild_page, rebuild_low, rebuild_back, rebuild_past, rebuild_short, rebuild_given}
 use Rattle.leaf_builder.proofs.rebuild_verdict.Goals as goal
 
-pub returns-then-v-ne0 : goal.returns-then-v-ne0
-returns-then-v-ne0 c = search (rebuild_page, rules)
+pub returns-in_err-verdict : goal.returns-in_err-verdict
+returns-in_err-verdict c = search (rebuild_page, refused, rules)
 
 pub returns-then-mid-from : goal.returns-then-mid-from
 returns-then-mid-from c = search (rebuild_low, rules)
@@ -23,5 +24,5 @@ returns-then-count_of-to c = search (rebuild_past, rules)
 pub returns-then-room-size : goal.returns-then-room-size
 returns-then-room-size c = search (rebuild_short, rules)
 
-pub returns-else-room-size : goal.returns-else-room-size
-returns-else-room-size c = search (rebuild_given, rules)
+pub returns : goal.returns
+returns c = search (rebuild_given, rules)

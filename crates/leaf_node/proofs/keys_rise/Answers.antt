@@ -8,13 +8,13 @@ use Rattle.leaf_node.proofs.keys_rise.Goals as goal
 
 pub loop-i-init : goal.loop-i-init
 unfolding all_below
-loop-i-init c = (search rules, refl)
+loop-i-init c = refl
 
 pub returns-then-not-less : goal.returns-then-not-less
 returns-then-not-less c = search (keys_not, rules)
 
 pub loop-i-preserved : goal.loop-i-preserved
-loop-i-preserved c = (search rules, search (keys_more, rules))
+loop-i-preserved c = search (keys_more, rules)
 
 pub returns : goal.returns
 returns c = search (keys_done, rules)

@@ -1,18 +1,22 @@
 -- `leaf_read::get` meets its contract.
 -- Assumes nothing.
 use Rattle.std.proofs.Common.{rules}
-use Rattle.leaf_node.proofs.Reading.{checked_long, checked_laid, checked_rising}
-use Rattle.leaf_read.proofs.Answers.{get_refused, get_given, get_number_lem}
+use Rattle.refusal.proofs.Refused.{refused, passed_on}
+use Rattle.leaf_node.proofs.Reading.{checked_rising}
+use Rattle.leaf_read.proofs.Answers.{get_refused, get_found, get_absent, found_inside}
 use Rattle.leaf_read.proofs.get.Goals as goal
 
-pub returns-then-v-ne0 : goal.returns-then-v-ne0
-returns-then-v-ne0 c = record { value = search (get_refused, rules); result_value = search rules }
+pub returns-in_err-node-clause-value : goal.returns-in_err-node-clause-value
+returns-in_err-node-clause-value c = rw (passed_on _ _ c.from_residual.ensures) (search (get_refused, refused, rules))
 
-pub count_of-requires : goal.count_of-requires
-count_of-requires c = search (checked_long, rules)
+pub search-requires : goal.search-requires
+search-requires c = (search (checked_rising, rules), search rules)
 
-pub find-requires : goal.find-requires
-find-requires c = (search (checked_laid, rules), search (checked_rising, rules), search rules)
+pub cell-requires : goal.cell-requires
+cell-requires c = search (found_inside, rules)
 
-pub returns : goal.returns
-returns c = record { value = search (get_given, rules); result_value = search (get_number_lem, rules) }
+pub returns-in-Ok-clause-value : goal.returns-in-Ok-clause-value
+returns-in-Ok-clause-value c = search (get_found, rules)
+
+pub returns-in-Err-clause-value : goal.returns-in-Err-clause-value
+returns-in-Err-clause-value c = search (get_absent, rules)

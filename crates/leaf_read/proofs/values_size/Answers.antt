@@ -1,17 +1,12 @@
 -- `leaf_read::values_size` meets its contract.
 -- Assumes nothing.
 use Rattle.std.proofs.Common.{rules}
-use Rattle.leaf_read.proofs.Answers.{size_refused, size_given, range_long_enough, range_laid, range_order, range_end, accepted_number}
+use Rattle.refusal.proofs.Refused.{refused, passed_on}
+use Rattle.leaf_read.proofs.Answers.{size_refused, size_given}
 use Rattle.leaf_read.proofs.values_size.Goals as goal
 
-pub returns-then-v-ne0 : goal.returns-then-v-ne0
-returns-then-v-ne0 c = record { value = search (size_refused, rules); result_value = search rules }
+pub returns-in_err-node-clause-value : goal.returns-in_err-node-clause-value
+returns-in_err-node-clause-value c = rw (passed_on _ _ c.from_residual.ensures) (search (size_refused, refused, rules))
 
-pub count_of-requires : goal.count_of-requires
-count_of-requires c = search (range_long_enough, rules)
-
-pub size_between-requires : goal.size_between-requires
-size_between-requires c = (search (range_laid, rules), search (range_order, rules), search (range_end, rules))
-
-pub returns : goal.returns
-returns c = record { value = search (size_given, rules); result_value = search (accepted_number, rules) }
+pub returns-clause-value : goal.returns-clause-value
+returns-clause-value c = search (size_given, rules)

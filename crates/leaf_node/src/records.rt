@@ -1,0 +1,80 @@
+// A leaf page whose records can be read.
+ghost use Rattle.std.specs.Prelude.{◌≡◌, [], ◌+◌, ◌≤◌, ◌<◌, length, IfOk};
+ghost use Rattle.refusal.specs.Numbers.{number_of};
+ghost use Rattle.leaf_node.specs.Limits.{PageSize};
+ghost use Rattle.leaf_node.specs.Page.{count, key_at, flag_at, start, length_at, values_size};
+ghost use Rattle.leaf_node.specs.Good.{KeysRise, page_verdict};
+ghost use Rattle.leaf_node.specs.Search.{search_of};
+ghost use Rattle.leaf_node.specs.Cell.{cell_at};
+ghost use Rattle.leaf_node.specs.Steps.{Counted};
+
+use crate::{Cell, cell_at, count_of, key_at, search, size_between, verdict};
+use refusal::Refusal;
+
+// A page and the number of its records, which all lie in it. A page that is ignored has no bytes and no records.
+#[derive(Clone, Copy)]
+pub struct LeafNode<'a> {
+    pub page: &'a [u8],
+    pub n: usize,
+    pub ghost counted: { Counted page.now n },
+}
+
+impl<'a> LeafNode<'a> {
+    // A page of `size` bytes, checked.
+    pub fn new(page: &'a [u8], size: usize) -> Result<LeafNode<'a>, Refusal>
+        requires { PageSize size }
+        ensures number { number_of result ≡ page_verdict size page.now }
+        ensures page { IfOk result (λ node. node.page.now ≡ page.now) }
+    {
+        verdict(page, size)?;
+        Ok(LeafNode {
+            page,
+            n: count_of(page),
+        })
+    }
+
+    // A page that is ignored, whatever it holds.
+    pub fn ignored(page: &'a [u8]) -> LeafNode<'a>
+        ensures { (result.page.now ≡ []) × (result.n ≡ 0) }
+    {
+        LeafNode {
+            page: &page[..0],
+            n: 0,
+        }
+    }
+
+    // Key i.
+    pub fn key(self, i: usize) -> &'a [u8; 32]
+        requires { i < self.n }
+        ensures { result.now ≡ key_at self.entry.page.now i }
+    {
+        key_at(self.page, i)
+    }
+
+    // Value i: offset, length and flag.
+    pub fn cell(self, i: usize) -> Cell
+        requires { i < self.n }
+        ensures { (result ≡ cell_at self.entry.page.now i) × (result.offset ≡ start self.entry.page.now i) × (result.offset + result.len ≡ start self.entry.page.now (i + 1)) × (result.len ≡ length_at self.entry.page.now i) × (result.flag ≡ flag_at self.entry.page.now i) }
+    {
+        cell_at(self.page, i)
+    }
+
+    // The value bytes of records `from` up to `to`: their values lie one after the other.
+    pub fn size_between(self, from: usize, to: usize) -> usize
+        requires { (from ≤ to) × (to ≤ self.n) }
+        ensures { (result ≡ values_size self.entry.page.now from to) × (result ≤ length self.entry.page.now) }
+    {
+        if from == to {
+            return 0;
+        }
+        size_between(self.page, self.n, from, to)
+    }
+
+    // Where a key stands among the records from `from` on, where keys rise.
+    pub fn search(self, from: usize, key: &[u8; 32]) -> Result<usize, usize>
+        requires { (from < self.n) × (KeysRise self.page.now) }
+        ensures { result ≡ search_of self.entry.page.now from key.now }
+    {
+        search(self.page, self.n, from, key)
+    }
+}

@@ -1,2 +1,0 @@
--- Laws on plain values, for the functions' proofs.
-pub mod Replies

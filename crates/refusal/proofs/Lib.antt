@@ -1,0 +1,3 @@
+-- What is known of every refusal.
+pub mod Refused
+pub mod Numbers
