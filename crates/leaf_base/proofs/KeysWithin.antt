@@ -11,7 +11,7 @@ use borrow.Author.Tests.{lt-ltb, le-ltb, ltb-true, ltb-false}
 use Rattle.bit_ops.specs.Key.{num, lt_key}
 use Rattle.leaf_node.specs.Record.{Record}
 use Rattle.leaf_node.specs.Page.{count, key_at, record_at, run, records_between, records}
-use Rattle.leaf_node.specs.Steps.{Sorted}
+use Rattle.leaf_node.specs.Good.{KeysRise}
 use Rattle.leaf_node.proofs.Searches.{rise_on}
 use Rattle.leaf_model.specs.Work.{below_cutoff}
 use Rattle.leaf_work.specs.Tests.{every}
@@ -44,21 +44,21 @@ lower_keys_are_below (some c) a b l h = lt-ltb (num a) (num c) (omega (arith, lt
 
 -- ---- the records of a page
 
-module _ (p : List ℕ) (n : ℕ) (rising : Sorted p n) (s : List ℕ) (c : Option (List ℕ)) where
+module _ (p : List ℕ) (n : ℕ) (counted : n ≡ count p) (rising : 0 < n → KeysRise p) (s : List ℕ) (c : Option (List ℕ)) where
   abbrev is_within : Record → Bool
   is_within r = not (lt_key r.key s) && below_cutoff c r.key
 
   all_within : ((j : ℕ) → j < n → is_within (record_at p j) ≡ true) → keys_within s c (records p) ≡ true
   unfolding records records_between
-  all_within h = every_of_run is_within (record_at p) (count p - 0) 0 (λ j a b. h j (omega (arith, rising.counted)))
+  all_within h = every_of_run is_within (record_at p) (count p - 0) 0 (λ j a b. h j (omega (arith, counted)))
 
   one_outside : (j : ℕ) → j < n → is_within (record_at p j) ≡ false → keys_within s c (records p) ≡ false
   unfolding records records_between
-  one_outside j l e = one_of_run_fails is_within (record_at p) (count p - 0) 0 j (omega arith) (omega (arith, rising.counted)) e
+  one_outside j l e = one_of_run_fails is_within (record_at p) (count p - 0) 0 j (omega arith) (omega (arith, counted)) e
 
   rises : (i j : ℕ) → i ≤ j → j < n → num (key_at p i) ≤ num (key_at p j)
   rises i j a b =
-      ⊎_elim (λ (q : i ≡ j). rw q (omega arith)) (λ (q : i < j). omega (arith, rise_on p rising.rise i j q (omega (arith, rising.counted)))) (eq-or-lt_of_le {n = i} {m = j} a)
+      ⊎_elim (λ (q : i ≡ j). rw q (omega arith)) (λ (q : i < j). omega (arith, rise_on p (rising (omega arith)) i j q (omega (arith, counted)))) (eq-or-lt_of_le {n = i} {m = j} a)
 
   pub no_keys_are_within : n ≡ 0 → true ≡ keys_within s c (records p)
   no_keys_are_within z = sym (all_within (λ j l. absurd (omega arith)))

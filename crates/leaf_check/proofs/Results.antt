@@ -7,12 +7,9 @@ use lib.Dec.{eqb, leb, ltb}
 use lib.ListN.{length}
 use native.Mathlib.Omega.{arith}
 use borrow.Author.Tests.{eq-eqb, ne_eqb, lt-ltb, le-ltb}
-use native.Mathlib.Nat.{add-zero}
 use Rattle.leaf_node.specs.Limits.{PageSize, body_limit, record_limit, value_limit, merge_below}
-use Rattle.leaf_node.specs.Record.{total}
-use Rattle.leaf_node.specs.Page.{word, pointer, count, key_at, run, records_between, values_size}
+use Rattle.leaf_node.specs.Page.{word, count, key_at, values_size}
 use Rattle.leaf_node.specs.Good.{Good}
-use Rattle.leaf_node.specs.Steps.{Laid}
 use Rattle.bit_ops.specs.Key.{lt_key}
 use Rattle.leaf_model.specs.Work.{zero_key, above_last, below_cutoff}
 use Rattle.leaf_work.specs.declared.Work.{Work}
@@ -96,28 +93,12 @@ module _ (w : Work) (z : Pass) where
   listed_below_by a e = rw e
 
   module _ (b : Bounds) (page : List ℕ) (n : ℕ) (v : Seeing b page n) where
-    pub room_none : (entries bytes : ℕ) → n ≤ w.low → (leb z.count entries && leb z.bytes bytes) ≡ room_for w z page entries bytes
-    unfolding room_for values_size records_between run total
-    room_none entries bytes h =
-        let d : n - w.low ≡ 0 = omega arith in
-        rw (← v.counted, d, add-zero, add-zero)
-
-    pub room_by : (entries bytes rest : ℕ) → w.low < n → rest ≡ values_size page w.low n
-        → (leb (z.count + (n - w.low)) entries && leb (z.bytes + rest) bytes) ≡ room_for w z page entries bytes
+    pub room_by : (entries bytes rest : ℕ) → rest ≡ values_size page w.low n → (leb (z.count + (n - w.low)) entries && leb (z.bytes + rest) bytes) ≡ room_for w z page entries bytes
     unfolding room_for
-    room_by entries bytes rest h e = rw (e, ← v.counted)
-
-    pub rest_laid : w.low < n → Laid page n
-    rest_laid h = v.laid (omega arith)
+    room_by entries bytes rest e = rw (e, ← v.counted)
 
     pub rest_few : (rest : ℕ) → rest ≤ length page → Small b z → z.bytes + rest < 2 ^ 63
     rest_few rest h s = omega (arith, v.short, v.used_few, s.seen, s.bytes)
-
-    pub rest_first_inside : w.low < n → pointer (w.low + 1) ≤ length page
-    rest_first_inside h = omega (arith, (rest_laid h).inside)
-
-    pub rest_last_inside : w.low < n → pointer (n - 1 + 1) ≤ length page
-    rest_last_inside h = omega (arith, (rest_laid h).inside)
 
     pub rest_none : (a : Bool) → n ≤ w.low → a ≡ (is_zero z.count || below_cutoff (cutoff_of w) z.last) → a ≡ rest_right w z page
     unfolding rest_right

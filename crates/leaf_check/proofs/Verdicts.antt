@@ -1,75 +1,128 @@
--- Nos. 1 to 8 in their order. Assumes nothing.
-use mathlib.Core.Path.{◌≡◌, sym, ◌∙◌}
-use mathlib.Core.Bool.{Bool, true, false, not, cond}
+-- Nos. 1 to 9 in their order. Assumes nothing.
+use mathlib.Core.Path.{◌≡◌, refl, sym, ◌∙◌}
+use mathlib.Core.Bool.{Bool, true, false, not, ◌&&◌, cond}
 use mathlib.Core.List.{List, []}
-use Prim.Native.Nat.{ℕ, ◌≤◌}
+use Prim.Native.Nat.{ℕ, ◌+◌, ◌-◌, ◌/◌, ◌≤◌}
 use native.Mathlib.Omega.{arith}
+use lib.Dec.{eqb, leb}
 use lib.ListN.{length}
-use borrow.Author.Tests.{eq-eqb, ne_eqb, not-true, not-false}
-use Rattle.refusal.specs.Refusal.{accepted, room_length, unsound}
+use borrow.Author.Tests.{eq-eqb, ne_eqb, eqb-true, eqb-false, leb-true, not-true, not-false}
+use Rattle.refusal.specs.Refusal.{accepted, room_length, out_of_turn, unsound}
+use Rattle.leaf_node.specs.Limits.{PageSize, record_limit, body_limit}
+use Rattle.leaf_model.proofs.Tests.{and_left, and_right}
 use Rattle.leaf_work.specs.declared.Work.{Work}
-use Rattle.leaf_work.specs.Tests.{is_set, key_if}
-use Rattle.leaf_work.specs.Lent.{room_right, cutoff_of, reads_base, regarded}
-use Rattle.leaf_work.specs.Flat.{list_of}
+use Rattle.leaf_work.specs.declared.Entry.{Entry}
+use Rattle.leaf_work.specs.Lent.{most_entries, most_store_bytes, room_right, is_open, cutoff_of, reads_base, regarded}
 use Rattle.leaf_work.specs.Sound.{sound}
-use Rattle.leaf_work.specs.Verdict.{first, keys_verdict, lent_verdict}
+use Rattle.leaf_work.specs.Verdict.{unless, first, keys_verdict, lent_page_verdict, lent_verdict, closed_verdict}
 use Rattle.leaf_work.proofs.BasePages.{lent_page_is_good}
-use Rattle.leaf_base.proofs.Rooms.{right_room_is_a_list_and_a_store}
-use Rattle.leaf_check.specs.Settled.{Regardable}
+use Rattle.leaf_base.proofs.Bases.{first_refused}
+use Rattle.leaf_check.specs.Settled.{Regardable, sound_by}
+use Rattle.leaf_check.proofs.Decided.{the_pass_decides}
 
-module _ (w : Work) (page : List ℕ) (t : Bool) (e : t ≡ reads_base w) where
-  pub the_page_is_read : t ≡ true → page ≡ regarded w page
-  the_page_is_read h = rw (← e, h)
+-- ---- No. 7
 
-  pub the_page_is_ignored : t ≡ false → [] ≡ regarded w page
-  the_page_is_ignored h = rw (← e, h)
+pub the_numbers_decide : (size entries bytes : ℕ) → (leb ((size - 2) / 34 + 1) entries && leb entries 4096 && leb size bytes && leb bytes 65536) ≡ room_right size entries bytes
+unfolding record_limit body_limit
+the_numbers_decide size entries bytes = refl
 
-  pub no_page_number : (size : ℕ) → not t ≡ true → 0 ≡ cond (reads_base w) (keys_verdict size page w.latest (cutoff_of w)) 0
-  no_page_number size h = rw (← e, not-true t h)
+module _ (size entries bytes : ℕ) (t : Bool) (e : t ≡ room_right size entries bytes) (h : not t ≡ false) where
+  right : room_right size entries bytes ≡ true
+  right = rw (← e) (not-false t h)
 
-  pub the_page_number : (size v : ℕ) → not t ≡ false → v ≡ keys_verdict size page w.latest (key_if (is_set w.cut) w.cutoff)
-      → v ≡ cond (reads_base w) (keys_verdict size page w.latest (cutoff_of w)) 0
-  the_page_number size v h f = rw (← e, not-false t h) f
+  pub few_bytes : bytes ≤ 65536
+  few_bytes = leb-true bytes most_store_bytes (and_right (leb (record_limit size + 1) entries && leb entries most_entries && leb size bytes) _ right)
 
-module _ (size : ℕ) (w : Work) (rows keys : List (List ℕ)) (store page : List ℕ) (v : ℕ) (e : v ≡ cond (reads_base w) (keys_verdict size page w.latest (cutoff_of w)) 0) where
-  pub the_page_is_refused : (v ≡ 0 → ⊥) → v ≡ lent_verdict size w (list_of rows keys) store page
+  pub few_entries : entries ≤ 4096
+  few_entries =
+      leb-true entries most_entries (and_right (leb (record_limit size + 1) entries) _
+      (and_left (leb (record_limit size + 1) entries && leb entries most_entries) _
+      (and_left (leb (record_limit size + 1) entries && leb entries most_entries && leb size bytes) _ right)))
+
+-- ---- Nos. 1 to 6
+
+pub no_page_number : (size : ℕ) (w : Work) (page : List ℕ) (t : Bool) → t ≡ reads_base w → not t ≡ true → 0 ≡ lent_page_verdict size w page
+no_page_number size w page t e h = rw (← e, not-true t h)
+
+pub an_ignored_page : (w : Work) (page p : List ℕ) (t : Bool) → t ≡ reads_base w → not t ≡ true → p ≡ [] → p ≡ regarded w page
+an_ignored_page w page p t e h k = rw (← e, not-true t h, k)
+
+module _ (size : ℕ) (w : Work) (page : List ℕ) (t : Bool) (e : t ≡ reads_base w) (h : not t ≡ false) where
+  pub the_page_number : (v : ℕ) → v ≡ keys_verdict size page w.latest (cutoff_of w) → v ≡ lent_page_verdict size w page
+  the_page_number v f = rw (← e, not-false t h) f
+
+  pub a_read_page : (p : List ℕ) → p ≡ page → p ≡ regarded w page
+  a_read_page p k = rw (← e, not-false t h) k
+
+-- ---- Nos. 1 to 8
+
+module _ (size : ℕ) (w : Work) (list : List Entry) (store page : List ℕ) (v : ℕ) (e : v ≡ lent_page_verdict size w page) where
+  pub the_page_is_refused : (v ≡ 0 → ⊥) → v ≡ lent_verdict size w list store page
   unfolding lent_verdict
   the_page_is_refused h = rw (← e, ne_eqb v 0 h, first) e
 
   module _ (z : v ≡ 0) where
-    pub a_regarded_page_is_good : Regardable size (regarded w page)
-    a_regarded_page_is_good = go (reads_base w) (sym e ∙ z)
+    pub the_regarded_is_good : (p : List ℕ) → p ≡ regarded w page → Regardable size p
+    the_regarded_is_good p k = rw k (go (reads_base w) (sym e ∙ z))
       where
         go : (b : Bool) → cond b (keys_verdict size page w.latest (cutoff_of w)) 0 ≡ 0 → Regardable size (cond b page [])
         go true q = record { good = λ h. lent_page_is_good size page w.latest (cutoff_of w) q }
         go false q = record { good = λ h. absurd (omega (arith, h)) }
 
-    module _ (t : Bool) (f : t ≡ room_right size (length (list_of rows keys)) (length store)) where
-      pub the_room_is_refused : not t ≡ true → room_length ≡ lent_verdict size w (list_of rows keys) store page
+    module _ (t : Bool) (f : t ≡ room_right size (length list) (length store)) where
+      pub the_room_is_refused : not t ≡ true → room_length ≡ lent_verdict size w list store page
       unfolding lent_verdict
       the_room_is_refused h = rw (← e, eq-eqb v 0 z, first, ← f, not-true t h)
 
-      module _ (h : not t ≡ false) where
-        right : room_right size (length (list_of rows keys)) (length store) ≡ true
-        right = rw (← f) (not-false t h)
+      module _ (h : not t ≡ false) (p : List ℕ) (k : p ≡ regarded w page) (s : Bool) (g : s ≡ sound size w list store p) where
+        pub the_work_is_refused : not s ≡ true → unsound ≡ lent_verdict size w list store page
+        unfolding lent_verdict
+        the_work_is_refused i = rw (← e, eq-eqb v 0 z, first, ← f, not-false t h, ← k, ← g, not-true s i)
 
-        pub as_many : length rows ≡ length keys
-        as_many = (right_room_is_a_list_and_a_store rows keys size store right).0
+        pub all_passes : not s ≡ false → accepted ≡ lent_verdict size w list store page
+        unfolding lent_verdict
+        all_passes i = rw (← e, eq-eqb v 0 z, first, ← f, not-false t h, ← k, ← g, not-false s i)
 
-        pub few_entries : length rows ≤ 4096
-        few_entries = (right_room_is_a_list_and_a_store rows keys size store right).1
+-- ---- Nos. 7 to 9 of a call on a work that isn't open
 
-        pub few_bytes : length store ≤ 65536
-        few_bytes = (right_room_is_a_list_and_a_store rows keys size store right).2
+module _ (size : ℕ) (w : Work) (list : List Entry) (store : List ℕ) (t : Bool) (e : t ≡ room_right size (length list) (length store)) where
+  pub a_closed_call_wants_room : not t ≡ true → room_length ≡ closed_verdict size w list store accepted
+  a_closed_call_wants_room h = rw (← e, not-true t h)
 
-        module _ (p : List ℕ) (k : p ≡ regarded w page) (s : Bool) (g : s ≡ sound size w (list_of rows keys) store p) where
-          pub the_work_is_refused : not s ≡ true → unsound ≡ lent_verdict size w (list_of rows keys) store page
-          unfolding lent_verdict
-          the_work_is_refused i = rw (← e, eq-eqb v 0 z, first, ← f, not-false t h, ← k, ← g, not-true s i)
+  module _ (h : not t ≡ false) (o : Bool) (k : o ≡ is_open w) where
+    pub an_open_work_is_out_of_turn : o ≡ true → out_of_turn ≡ closed_verdict size w list store accepted
+    an_open_work_is_out_of_turn i = rw (← e, not-false t h, ← k, i)
 
-          pub all_passes : not s ≡ false → accepted ≡ lent_verdict size w (list_of rows keys) store page
-          unfolding lent_verdict
-          all_passes i = rw (← e, eq-eqb v 0 z, first, ← f, not-false t h, ← k, ← g, not-false s i)
+    module _ (i : o ≡ false) (p : List ℕ) (l : p ≡ []) (s : Bool) (f : s ≡ sound size w list store p) where
+      pub an_unsound_work_is_refused : not s ≡ true → unsound ≡ closed_verdict size w list store accepted
+      an_unsound_work_is_refused j = rw (← e, not-false t h, ← k, i, ← l, ← f, not-true s j)
 
-pub the_regarded_is_good : (size : ℕ) (w : Work) (page p : List ℕ) (v : ℕ) → v ≡ cond (reads_base w) (keys_verdict size page w.latest (cutoff_of w)) 0 → v ≡ 0 → p ≡ regarded w page → Regardable size p
-the_regarded_is_good size w page p v e z k = rw k (a_regarded_page_is_good size w [] [] [] page v e z)
+      pub a_closed_work_is_accepted : not s ≡ false → accepted ≡ closed_verdict size w list store accepted
+      a_closed_work_is_accepted j = rw (← e, not-false t h, ← k, i, ← l, ← f, not-false s j)
+
+pub nothing_is_regarded : (size : ℕ) (p : List ℕ) → p ≡ [] → Regardable size p
+nothing_is_regarded size p e = rw e (record { good = λ h. absurd (omega (arith, h)) })
+
+-- ---- the numbers by what the pass over the entries comes to, as the code finds it: they are those of the definitions
+
+module _ (size : ℕ) (q : PageSize size) (w : Work) (list : List Entry) (store : List ℕ) where
+  pub a_pass_tells_the_refusal : (page : List ℕ)
+      → first (lent_page_verdict size w page)
+      (unless room_length (room_right size (length list) (length store)) (unless unsound (sound_by size w list store (regarded w page)) accepted))
+      ≡ lent_verdict size w list store page
+  unfolding lent_verdict
+  a_pass_tells_the_refusal page = go (eqb (lent_page_verdict size w page) 0) refl
+    where
+      v : ℕ
+      v = lent_page_verdict size w page
+
+      go : (b : Bool) → eqb v 0 ≡ b
+          → first v (unless room_length (room_right size (length list) (length store)) (unless unsound (sound_by size w list store (regarded w page)) accepted))
+          ≡ first v (unless room_length (room_right size (length list) (length store)) (unless unsound (sound size w list store (regarded w page)) accepted))
+      go true e = rw (the_pass_decides size q w list store (regarded w page) (the_regarded_is_good size w list store page v refl (eqb-true v 0 e) (regarded w page) refl)) refl
+      go false e = let h = eqb-false v 0 e in first_refused v _ h ∙ sym (first_refused v _ h)
+
+  pub a_pass_tells_a_closed_refusal :
+      unless room_length (room_right size (length list) (length store)) (unless out_of_turn (not (is_open w)) (unless unsound (sound_by size w list store []) accepted))
+      ≡ closed_verdict size w list store accepted
+  a_pass_tells_a_closed_refusal = rw (the_pass_decides size q w list store [] (nothing_is_regarded size [] refl)) refl

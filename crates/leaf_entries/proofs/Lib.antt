@@ -1,5 +1,4 @@
 -- Laws for the functions' proofs, on plain values.
-pub mod Folded
+pub mod Finding
 pub mod Laying
 pub mod Splitting
-pub mod Rows

@@ -3,29 +3,13 @@
 
 ghost use Rattle.std.specs.Prelude.{◌≡◌, ◌≤◌, length, get_or, set, take};
 ghost use Rattle.leaf_model.specs.Basics.{cleared};
-ghost use Rattle.leaf_node.specs.Fits.{All};
 ghost use Rattle.leaf_work.specs.Lent.{blank, insert_at, chunk_of};
-ghost use Rattle.leaf_work.specs.Flat.{row_of};
-ghost use Rattle.leaf_passed.specs.Passed.{PassingOn, passed_over};
-ghost use Rattle.leaf_passed.specs.Behind.{unused_over};
-ghost use Rattle.leaf_passed.specs.Sought.{sought_over};
+ghost use Rattle.leaf_work.specs.Pending.{records_in};
 ghost use Rattle.leaf_entries.specs.Lists.{behind_of};
 
-use leaf_passed::{
-    Passing, Seek, Unused, begin_unused, first_count, mark, pass_one, seek_one, unused_one,
-};
 use leaf_work::Entry;
 
 // ---- one entry, by value
-
-// An entry's numbers.
-pub fn row_of(entry: Entry) -> [usize; 5]
-    ensures { result ≡ row_of entry }
-{
-    let kind = entry.kind as usize;
-    let flag = entry.flag as usize;
-    [kind, flag, entry.from, entry.to, entry.sum]
-}
 
 // An unused entry.
 pub fn blank_entry() -> Entry
@@ -45,28 +29,26 @@ pub fn blank_entry() -> Entry
 pub fn insert_entry(from: usize, to: usize, key: &[u8; 32], flag: u8) -> Entry
     ensures { result ≡ insert_at from to key.now flag }
 {
-    let own = *key;
     Entry {
         kind: 1,
-        flag: flag,
-        from: from,
-        to: to,
+        flag,
+        from,
+        to,
         sum: 0,
-        key: own,
+        key: *key,
     }
 }
 
-// A chunk, base records `from` to `to`, whose values have `sum` bytes.
-pub fn chunk_entry(from: usize, to: usize, sum: usize) -> Entry
-    ensures { result ≡ chunk_of from to sum }
+// A chunk, base records `first` to `end`, whose values have `sum` bytes.
+pub fn chunk_entry(first: usize, end: usize, sum: usize) -> Entry
+    ensures { result ≡ chunk_of first end sum }
 {
     Entry {
         kind: 2,
-        flag: 0,
-        from: from,
-        to: to,
-        sum: sum,
-        key: [0u8; 32],
+        from: first,
+        to: end,
+        sum,
+        ..blank_entry()
     }
 }
 
@@ -86,6 +68,16 @@ fn behind(entry: Entry, skip: usize) -> Entry
     chunk_entry(entry.from + skip, entry.to, 0)
 }
 
+// How many records an entry has.
+pub fn records_in_entry(entry: &Entry) -> usize
+    ensures { result ≡ records_in entry.now }
+{
+    if entry.is_insert() {
+        return 1;
+    }
+    entry.to.saturating_sub(entry.from)
+}
+
 // ---- the list is read
 
 // Entry `at`, or behind the list's end an unused one.
@@ -93,11 +85,9 @@ pub fn read(list: &[Entry], at: usize) -> Entry
     ensures { result ≡ get_or list.now at blank }
 {
     if at < list.len() {
-        let entry = list[at];
-        entry
+        list[at]
     } else {
-        let entry = blank_entry();
-        entry
+        blank_entry()
     }
 }
 
@@ -107,60 +97,6 @@ pub fn split(list: &[Entry], at: usize, skip: usize) -> Entry
 {
     let entry = read(list, at);
     behind(entry, skip)
-}
-
-// The pass over the first `count` entries.
-fn pass_first(list: &[Entry], page: &[u8], start: Passing, count: usize) -> Passing
-    requires { (PassingOn start page.now) × (count ≤ length list.now) }
-    ensures { (result ≡ passed_over page.now start (take count list.now)) × (PassingOn result page.now) }
-{
-    let mut at = start;
-    let mut i = 0;
-    while i < count {
-        let entry = list[i];
-        at = pass_one(at, entry, page);
-        i += 1;
-    }
-    at
-}
-
-// Whether the entries behind the first ones are unused. Of each that was read it is known that its key has 32 bytes.
-pub fn unused_entries(list: &[Entry], start: Unused) -> Unused
-    ensures { (result ≡ unused_over start list.now) × (All (λ e. length e.key ≡ 32) list.now) }
-{
-    let mut at = start;
-    let mut i = 0;
-    while i < list.len() {
-        let entry = list[i];
-        at = unused_one(at, entry);
-        i += 1;
-    }
-    at
-}
-
-// The pass over all entries: the used ones are passed, the others only looked at.
-pub fn pass_entries(list: &[Entry], page: &[u8], start: Passing) -> Passing
-    requires { PassingOn start page.now }
-    ensures { (result ≡ passed_over page.now start list.now) × (PassingOn result page.now) × (All (λ e. length e.key ≡ 32) list.now) }
-{
-    let count = first_count(start, list.len());
-    let at = pass_first(list, page, start, count);
-    let unused = unused_entries(list, begin_unused(count));
-    mark(at, unused)
-}
-
-// The search over all entries.
-pub fn seek_entries(list: &[Entry], start: Seek) -> Seek
-    ensures { result ≡ sought_over start list.now }
-{
-    let mut at = start;
-    let mut i = 0;
-    while i < list.len() {
-        let entry = list[i];
-        at = seek_one(at, entry);
-        i += 1;
-    }
-    at
 }
 
 // ---- the list is changed
@@ -178,9 +114,7 @@ pub fn insert(list: &mut [Entry], at: usize, entry: Entry)
 pub fn drain(list: &mut [Entry], from: usize)
     ensures { list.new ≡ cleared blank list.old from }
 {
-    let mut i = from;
-    while i < list.len() {
-        list[i] = blank_entry();
-        i += 1;
+    if from < list.len() {
+        list[from..].fill(blank_entry());
     }
 }

@@ -2,6 +2,7 @@
 use mathlib.Core.Path.{◌≡◌, refl, sym, ap, ◌∙◌}
 use mathlib.Core.Bool.{Bool, true, false}
 use mathlib.Core.Option.{Option, none, some}
+use Rattle.std.specs.Prelude as std
 use mathlib.Core.List.{List, [], ◌∷◌, ◌++◌, append-nil, append_assoc}
 use Prim.Native.Nat.{ℕ, zero, suc, ◌+◌, ◌≤◌, ◌<◌}
 use native.Mathlib.Omega.{arith}
@@ -122,9 +123,9 @@ module _ (size : ℕ) (p : PageSize size) where
   unfolding cut_all cut_as_written
   cutting_as_the_paper_says rs a = test (target_of size (body rs)) refl
     where
-      test : (o : Option ℕ) → target_of size (body rs) ≡ o → cut_all size rs ≡ cut_as_written size rs
-      test none e = rw (e, cut_all, cut_as_written)
-      test (some target) e = rw (e, cut_all, cut_as_written)
+      test : (o : std.Option ℕ) → target_of size (body rs) ≡ o → cut_all size rs ≡ cut_as_written size rs
+      test std.None e = rw (e, cut_all, cut_as_written)
+      test (std.Some target) e = rw (e, cut_all, cut_as_written)
           (leaf_after_leaf (body_limit size) target (length rs) rs (all_map (λ r h. omega (arith, (limits_agree size p).room)) a) (omega arith))
 
   -- so a digest, all five steps, is given by the paper's cutting

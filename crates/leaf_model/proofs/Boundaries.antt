@@ -4,6 +4,7 @@
 use mathlib.Core.Path.{◌≡◌, refl}
 use mathlib.Core.Bool.{true, false}
 use mathlib.Core.Option.{none, some}
+use Rattle.std.specs.Prelude as std
 use mathlib.Core.List.{List, [], ◌∷◌, ◌++◌, map}
 use Prim.Native.Nat.{ℕ, ◌+◌}
 use lib.ListN.{replicate}
@@ -57,8 +58,8 @@ merged = steps 4096 waiting (passing (NextBase (record { records = valued 10 (10
 
 -- a body of 4,094 is not cut, one of 4,095 is: its half is the target
 pub record WhichAreHalved : Type 0 where
-  pub target_of_4094 : target_of 4096 4094 ≡ none
-  pub target_of_4095 : target_of 4096 4095 ≡ some 2047
+  pub target_of_4094 : target_of 4096 4094 ≡ std.None
+  pub target_of_4095 : target_of 4096 4095 ≡ std.Some 2047
 
 which_are_halved : WhichAreHalved
 unfolding target_of body_limit bulk_above bulk_target
@@ -69,8 +70,8 @@ which_are_halved = record {
 
 -- a body of 7,369 is halved, one of 7,370 is cut in bulk
 pub record WhichAreCutInBulk : Type 0 where
-  pub target_of_7369 : target_of 4096 7369 ≡ some 3684
-  pub target_of_7370 : target_of 4096 7370 ≡ some 3070
+  pub target_of_7369 : target_of 4096 7369 ≡ std.Some 3684
+  pub target_of_7370 : target_of 4096 7370 ≡ std.Some 3070
 
 which_are_cut_in_bulk : WhichAreCutInBulk
 unfolding target_of body_limit bulk_above bulk_target

@@ -1,6 +1,7 @@
 -- Cutting (steps 1 to 3): no record is lost, and no leaf is too large or too small. Assumes nothing.
 use mathlib.Core.Path.{◌≡◌, refl, sym, ◌∙◌}
-use mathlib.Core.Option.{Option, none, some, some-injective}
+use Rattle.std.specs.Prelude.{Option, None, Some}
+use Rattle.std.proofs.lemmas.Option.{none-some, same_Some}
 use mathlib.Core.Bool.{Bool, true, false}
 use mathlib.Core.List.{List, [], ◌∷◌, ◌++◌, append-nil, append_assoc}
 use Prim.Native.Nat.{ℕ, ◌+◌, ◌/◌, ◌≤◌, ◌<◌}
@@ -13,7 +14,6 @@ use Rattle.leaf_node.specs.Record.{Record, cost, body}
 use Rattle.leaf_node.specs.Fits.{All, nil, cons}
 use Rattle.leaf_model.specs.Basics.{joined, nonempty}
 use Rattle.leaf_model.specs.Cut.{Cut, nothing_cut, with_leaf, target_of, cut, cut_all}
-use Rattle.leaf_model.proofs.Tests.{none_is_not_some}
 use Rattle.leaf_model.proofs.Lists.{all_head, all_tail, all_map, body_append}
 
 -- ---- the clauses of `cut`, with the tests as orders
@@ -74,8 +74,8 @@ module _ (limit target : ℕ) (P : List Record → ℕ → List Record → Cut �
           let d = leb-false target (size + cost r) e₃ in
           rw (cut_further limit target leaf size r rs o d) (further leaf size r rs _ o d h₃)
 
-module _ (size b : ℕ) (P : Option ℕ → Type 0) (bulk : bulk_above size < b → P (some (bulk_target size)))
-    (halved : b ≤ bulk_above size → body_limit size < b → P (some (b / 2))) (uncut : b ≤ body_limit size → P none) where
+module _ (size b : ℕ) (P : Option ℕ → Type 0) (bulk : bulk_above size < b → P (Some (bulk_target size)))
+    (halved : b ≤ bulk_above size → body_limit size < b → P (Some (b / 2))) (uncut : b ≤ body_limit size → P None) where
   pub target_cases : P (target_of size b)
   unfolding target_of
   target_cases = test (ltb (bulk_above size) b) (ltb (body_limit size) b) refl refl
@@ -85,15 +85,15 @@ module _ (size b : ℕ) (P : Option ℕ → Type 0) (bulk : bulk_above size < b 
       test false true e f = rw (e, f, target_of) (halved (ltb-false _ _ e) (ltb-true _ _ f))
       test false false e f = rw (e, f, target_of) (uncut (ltb-false _ _ f))
 
-module _ (size : ℕ) (rs : List Record) (P : Cut → Type 0) (uncut : target_of size (body rs) ≡ none → P (nothing_cut rs))
-    (leaves : (target : ℕ) → target_of size (body rs) ≡ some target → P (cut (body_limit size) target [] 0 rs)) where
+module _ (size : ℕ) (rs : List Record) (P : Cut → Type 0) (uncut : target_of size (body rs) ≡ None → P (nothing_cut rs))
+    (leaves : (target : ℕ) → target_of size (body rs) ≡ Some target → P (cut (body_limit size) target [] 0 rs)) where
   pub cut_all_cases : P (cut_all size rs)
   unfolding cut_all
   cut_all_cases = test (target_of size (body rs)) refl
     where
       test : (o : Option ℕ) → target_of size (body rs) ≡ o → P (cut_all size rs)
-      test none e = rw (e, cut_all) (uncut e)
-      test (some target) e = rw (e, cut_all) (leaves target e)
+      test None e = rw (e, cut_all) (uncut e)
+      test (Some target) e = rw (e, cut_all) (leaves target e)
 
 -- ---- no record is lost
 
@@ -193,27 +193,27 @@ module _ (size : ℕ) (p : PageSize size) where
   leaf_sized l b = record { some_record = has_record l (omega (arith, b.enough, (limits_agree size p).some_body)); enough = b.enough; fits = b.fits }
 
   -- a target lies between the merge threshold and the body limit
-  pub target_enough : (b t : ℕ) → target_of size b ≡ some t → merge_below size ≤ t
+  pub target_enough : (b t : ℕ) → target_of size b ≡ Some t → merge_below size ≤ t
   target_enough b =
       let s = limits_agree size p in
-      target_cases size b (λ o. (t : ℕ) → o ≡ some t → merge_below size ≤ t)
-      (λ h t e. rw (← some-injective _ _ e) s.bulk_enough)
-      (λ h k t e. rw (← some-injective _ _ e) (s.half_enough b k))
-      (λ h t e. none_is_not_some e)
+      target_cases size b (λ o. (t : ℕ) → o ≡ Some t → merge_below size ≤ t)
+      (λ h t e. rw (← same_Some _ _ e) s.bulk_enough)
+      (λ h k t e. rw (← same_Some _ _ e) (s.half_enough b k))
+      (λ h t e. absurd (none-some _ e))
 
-  pub target_fits : (b t : ℕ) → target_of size b ≡ some t → t ≤ body_limit size
+  pub target_fits : (b t : ℕ) → target_of size b ≡ Some t → t ≤ body_limit size
   target_fits b =
       let s = limits_agree size p in
-      target_cases size b (λ o. (t : ℕ) → o ≡ some t → t ≤ body_limit size)
-      (λ h t e. rw (← some-injective _ _ e) s.bulk_fits)
-      (λ h k t e. rw (← some-injective _ _ e) (s.half_fits b h))
-      (λ h t e. none_is_not_some e)
+      target_cases size b (λ o. (t : ℕ) → o ≡ Some t → t ≤ body_limit size)
+      (λ h t e. rw (← same_Some _ _ e) s.bulk_fits)
+      (λ h k t e. rw (← same_Some _ _ e) (s.half_fits b h))
+      (λ h t e. absurd (none-some _ e))
 
-  uncut_fits : (b : ℕ) → target_of size b ≡ none → b ≤ body_limit size
+  uncut_fits : (b : ℕ) → target_of size b ≡ None → b ≤ body_limit size
   uncut_fits b =
-      target_cases size b (λ o. o ≡ none → b ≤ body_limit size) (λ h e. none_is_not_some (sym e)) (λ h k e. none_is_not_some (sym e)) (λ h e. h)
+      target_cases size b (λ o. o ≡ None → b ≤ body_limit size) (λ h e. absurd (none-some _ (sym e))) (λ h k e. absurd (none-some _ (sym e))) (λ h e. h)
 
-  cut_to : (rs : List Record) (target : ℕ) → target_of size (body rs) ≡ some target → All (Fitting size) rs
+  cut_to : (rs : List Record) (target : ℕ) → target_of size (body rs) ≡ Some target → All (Fitting size) rs
       → CutWithin (merge_below size) (body_limit size) target (cut (body_limit size) target [] 0 rs)
   cut_to rs target e a =
       let s = limits_agree size p in
@@ -230,9 +230,9 @@ module _ (size : ℕ) (p : PageSize size) where
       record { leaves = all_map leaf_sized g.leaves; left = omega (arith, g.left, target_fits (body rs) target e) })
 
   -- where leaves are cut, what is left doesn't reach their target
-  pub rest_is_below_the_target : (rs : List Record) (target : ℕ) → target_of size (body rs) ≡ some target → All (Fitting size) rs
+  pub rest_is_below_the_target : (rs : List Record) (target : ℕ) → target_of size (body rs) ≡ Some target → All (Fitting size) rs
       → body (cut_all size rs).left < target
   rest_is_below_the_target rs target e a =
       cut_all_cases size rs (λ c. body c.left < target)
-      (λ f. none_is_not_some (sym f ∙ e))
-      (λ t f. let g = cut_to rs t f a in omega (arith, g.left, some-injective t target (sym f ∙ e)))
+      (λ f. absurd (none-some _ (sym f ∙ e)))
+      (λ t f. let g = cut_to rs t f a in omega (arith, g.left, same_Some t target (sym f ∙ e)))

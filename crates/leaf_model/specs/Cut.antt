@@ -2,6 +2,7 @@
 -- Step 3 stands here twice: leaf by leaf, as the paper tells it, and in one pass over the records, which all else uses.
 -- `cutting_as_the_paper_says` (proofs/AsThePaperSays) shows that they agree. Limits are those of the page size; at 4,096 they are the paper's numbers.
 use Rattle.std.specs.Prelude.{true, false, List, [], ◌∷◌, ◌++◌, ℕ, zero, suc, ◌+◌, ◌/◌, ltb, leb, length}
+use Rattle.std.specs.Prelude as std
 use Rattle.std.proofs.Math.Option.{Option, none, some}
 use Rattle.leaf_node.specs.Limits.{body_limit, bulk_above, bulk_target}
 use Rattle.leaf_node.specs.Record.{Record, cost, body}
@@ -20,12 +21,12 @@ with_leaf leaf c = record { leaves = leaf ∷ c.leaves; left = c.left }
 -- ---- which target
 
 -- steps 1 and 2, for pending records whose body size is b; none: nothing is cut
-unfoldable pub target_of : ℕ → ℕ → Option ℕ
+unfoldable pub target_of : ℕ → ℕ → std.Option ℕ
 target_of size b = elim (ltb (bulk_above size) b) [
   -- "If B is over 7,369, cut leaves with target 3,070."
-  | true ↦ some (bulk_target size)
+  | true ↦ std.Some (bulk_target size)
   -- "Else, if B is over 4,094, cut leaves with target B / 2, rounded down, fixed once."
-  | false ↦ elim (ltb (body_limit size) b) [ true ↦ some (b / 2) | false ↦ none ]
+  | false ↦ elim (ltb (body_limit size) b) [ true ↦ std.Some (b / 2) | false ↦ std.None ]
 ]
 
 -- ---- step 3, as the paper tells it
@@ -61,8 +62,8 @@ take_leaves (suc n) limit target rs = elim (take_until limit target [] rs) [
 
 unfoldable pub cut_as_written : ℕ → List Record → Cut
 cut_as_written size rs = elim (target_of size (body rs)) [
-  | none ↦ nothing_cut rs
-  | some target ↦ take_leaves (length rs) (body_limit size) target rs
+  | std.None ↦ nothing_cut rs
+  | std.Some target ↦ take_leaves (length rs) (body_limit size) target rs
 ]
 
 -- ---- step 3 in one pass
@@ -84,6 +85,6 @@ cut limit target leaf size (r ∷ rs) = elim (ltb limit (size + cost r)) [
 
 unfoldable pub cut_all : ℕ → List Record → Cut
 cut_all size rs = elim (target_of size (body rs)) [
-  | none ↦ nothing_cut rs
-  | some target ↦ cut (body_limit size) target [] 0 rs
+  | std.None ↦ nothing_cut rs
+  | std.Some target ↦ cut (body_limit size) target [] 0 rs
 ]

@@ -4,12 +4,9 @@ use mathlib.Core.Bool.{Bool, true, false, not, ◌&&◌}
 use mathlib.Core.List.{List}
 use Prim.Native.Nat.{ℕ, ◌+◌, ◌-◌, ◌≤◌, ◌<◌}
 use lib.Dec.{eqb, leb, ltb}
-use lib.ListN.{length, get_or, replicate}
 use native.Mathlib.Omega.{arith}
 use borrow.Author.Tests.{eq-eqb, ne_eqb, eqb-true, eqb-false, ltb-true, leb-true, lt-ltb, le-ltb, not-true, not-false}
-use Rattle.leaf_node.specs.Page.{pointer, key_at, values_size}
-use Rattle.leaf_node.specs.Build.{put}
-use Rattle.leaf_node.proofs.Copying.{put_all}
+use Rattle.leaf_node.specs.Page.{key_at, values_size}
 use Rattle.leaf_node.proofs.Laying.{start_inside, values_size_is_a_difference}
 use Rattle.leaf_node.specs.Steps.{Laid}
 use Rattle.leaf_model.proofs.Tests.{and_left, and_right}
@@ -18,7 +15,6 @@ use Rattle.bit_ops.proofs.Order.{equal_numbers_are_equal_keys}
 use Rattle.leaf_model.specs.Work.{zero_key}
 use Rattle.leaf_work.specs.declared.Entry.{Entry}
 use Rattle.leaf_work.specs.Tests.{same_bytes, is_zero}
-use Rattle.leaf_work.specs.Flat.{entry_of}
 use Rattle.leaf_work.specs.Lent.{an_insert}
 use Rattle.leaf_work.specs.Sound.{is_flag, is_blank}
 use Rattle.leaf_work.proofs.Tests.{same_bytes_lem, same_bytes_are_equal}
@@ -48,26 +44,26 @@ later_ones_are_above n l k r z e = rw (ne_eqb n 0 z, is_behind) e
 
 -- ---- entries
 
-pub blank_by : (row key : List ℕ) (r : Bool) → r ≡ same_bytes key zero_key
-    → (eqb (get_or row 0 0) 0 && (eqb (get_or row 2 0) 0 && (eqb (get_or row 3 0) 0 && (eqb (get_or row 4 0) 0 && (r && eqb (get_or row 1 0) 0))))) ≡ is_blank (entry_of row key)
-blank_by row key r e = rw e
+pub blank_by : (it : Entry) (r : Bool) → r ≡ same_bytes it.key zero_key
+    → (eqb it.kind 0 && (eqb it.from 0 && (eqb it.to 0 && (eqb it.sum 0 && (r && eqb it.flag 0))))) ≡ is_blank it
+blank_by it r e = rw e
 
-pub lies_by : (low : ℕ) (row key : List ℕ) (r : Bool) → r ≡ same_bytes key zero_key
-    → (eqb (get_or row 0 0) 2 && (ltb (get_or row 2 0) (get_or row 3 0) && (leb (get_or row 3 0) low && (r && eqb (get_or row 1 0) 0)))) ≡ chunk_lies low (entry_of row key)
+pub lies_by : (low : ℕ) (it : Entry) (r : Bool) → r ≡ same_bytes it.key zero_key
+    → (eqb it.kind 2 && (ltb it.from it.to && (leb it.to low && (r && eqb it.flag 0)))) ≡ chunk_lies low it
 unfolding chunk_lies
-lies_by low row key r e = rw e
+lies_by low it r e = rw e
 
-pub insert_by : (b : Bounds) (z : Pass) (row key : List ℕ) (m : ℕ) (s : Bool) → m ≡ get_or row 3 0 - get_or row 2 0 → s ≡ is_behind z.count z.last key
-    → ((leb (get_or row 2 0) (get_or row 3 0) && (eqb (get_or row 4 0) 0 && leb (get_or row 1 0) 1))
-    && ((eqb (get_or row 2 0) z.end && (leb (get_or row 3 0) b.filled && leb m b.most)) && s))
-    ≡ insert_right b z (entry_of row key)
+pub insert_by : (b : Bounds) (z : Pass) (it : Entry) (m : ℕ) (s : Bool) → m ≡ it.to - it.from → s ≡ is_behind z.count z.last it.key
+    → ((leb it.from it.to && (eqb it.sum 0 && leb it.flag 1))
+    && ((eqb it.from z.end && (leb it.to b.filled && leb m b.most)) && s))
+    ≡ insert_right b z it
 unfolding insert_right
-insert_by b z row key m s e f = rw (e, f)
+insert_by b z it m s e f = rw (e, f)
 
-pub with_insert_by : (z : Pass) (row key : List ℕ) (m : ℕ) → m ≡ get_or row 3 0 - get_or row 2 0
-    → ◌≡◌ {A = Pass} (record { right = true; seen = z.seen + 1; inserts = z.inserts + 1; end = get_or row 3 0; count = z.count + 1; bytes = z.bytes + m; last = key })
-    (with_insert z (entry_of row key))
-with_insert_by z row key m e = rw e
+pub with_insert_by : (z : Pass) (it : Entry) (m : ℕ) → m ≡ it.to - it.from
+    → ◌≡◌ {A = Pass} (record { right = true; seen = z.seen + 1; inserts = z.inserts + 1; end = it.to; count = z.count + 1; bytes = z.bytes + m; last = it.key })
+    (with_insert z it)
+with_insert_by z it m e = rw e
 
 pub record Lying (low : ℕ) (from to : ℕ) : Type 0 where
   pub some : from < to
@@ -102,41 +98,34 @@ place_of_an_insert b z e h =
     }
 
 -- a chunk that lies in the passed part is read from a page that has records
-module _ (b : Bounds) (page : List ℕ) (n : ℕ) (row key : List ℕ) (v : Seeing b page n) (r : Bool) (e : r ≡ chunk_lies b.low (entry_of row key)) where
-  pub not_a_chunk : (z : Pass) → not r ≡ true → false ≡ chunk_right b page z (entry_of row key)
+module _ (b : Bounds) (page : List ℕ) (n : ℕ) (it : Entry) (v : Seeing b page n) (r : Bool) (e : r ≡ chunk_lies b.low it) where
+  pub not_a_chunk : (z : Pass) → not r ≡ true → false ≡ chunk_right b page z it
   unfolding chunk_right
   not_a_chunk z h = rw (← e, not-true r h)
 
   module _ (h : not r ≡ false) where
-    lies : chunk_lies b.low (entry_of row key) ≡ true
+    lies : chunk_lies b.low it ≡ true
     lies = rw (← e) (not-false r h)
 
-    pub chunk_laid : Laid page n
-    chunk_laid = let p = places_of_a_chunk b.low (entry_of row key) lies in v.laid (omega (arith, p, v.low_in))
+    pub chunk_order : it.from ≤ it.to
+    chunk_order = omega (arith, places_of_a_chunk b.low it lies)
 
-    pub chunk_order : get_or row 2 0 ≤ get_or row 3 0
-    chunk_order = omega (arith, places_of_a_chunk b.low (entry_of row key) lies)
+    pub chunk_end : it.to ≤ n
+    chunk_end = omega (arith, places_of_a_chunk b.low it lies, v.low_in)
 
-    pub chunk_end : get_or row 3 0 ≤ n
-    chunk_end = omega (arith, places_of_a_chunk b.low (entry_of row key) lies, v.low_in)
+    pub chunk_first : it.from < n
+    chunk_first = omega (arith, places_of_a_chunk b.low it lies, v.low_in)
 
-    pub first_key_inside : pointer (get_or row 2 0 + 1) ≤ length page
-    first_key_inside = omega (arith, places_of_a_chunk b.low (entry_of row key) lies, v.low_in, chunk_laid.inside)
-
-    pub chunk_by : (z : Pass) (sum : ℕ) (k : List ℕ) (s : Bool) → sum ≡ values_size page (get_or row 2 0) (get_or row 3 0) → k ≡ key_at page (get_or row 2 0)
-        → s ≡ is_behind z.count z.last k → (eqb (get_or row 4 0) sum && s) ≡ chunk_right b page z (entry_of row key)
+    pub chunk_by : (z : Pass) (sum : ℕ) (k : List ℕ) (s : Bool) → sum ≡ values_size page it.from it.to → k ≡ key_at page it.from
+        → s ≡ is_behind z.count z.last k → (eqb it.sum sum && s) ≡ chunk_right b page z it
     unfolding chunk_right
     chunk_by z sum k s f g q = rw (lies, f, q, g)
 
--- the last key of a chunk
-pub last_key_inside : (b : Bounds) (page : List ℕ) (n from to : ℕ) → Seeing b page n → from < to → to ≤ n → pointer (to - 1 + 1) ≤ length page
-last_key_inside b page n from to v h k = omega (arith, (v.laid (omega arith)).inside)
-
-pub with_chunk_by : (page : List ℕ) (z : Pass) (row key k x : List ℕ) → x ≡ key_at page (get_or row 3 0 - 1) → length x ≡ 32 → k ≡ put (replicate 32 0) 0 x
+pub with_chunk_by : (page : List ℕ) (z : Pass) (it : Entry) (k : List ℕ) → k ≡ key_at page (it.to - 1)
     → ◌≡◌ {A = Pass}
-    (record { right = true; seen = z.seen + 1; inserts = z.inserts; end = z.end; count = z.count + (get_or row 3 0 - get_or row 2 0); bytes = z.bytes + get_or row 4 0; last = k })
-    (with_chunk page z (entry_of row key))
-with_chunk_by page z row key k x e l f = rw (f, put_all (replicate 32 0) x l, e)
+    (record { right = true; seen = z.seen + 1; inserts = z.inserts; end = z.end; count = z.count + (it.to - it.from); bytes = z.bytes + it.sum; last = k })
+    (with_chunk page z it)
+with_chunk_by page z it k e = rw e
 
 -- ---- one more entry
 
@@ -149,27 +138,27 @@ module _ (b : Bounds) (z : Pass) (small : Small b z) where
   pub wrong_small : (r : Pass) → r ≡ wrong z → Small b r
   wrong_small r e = rw e (record { seen = small.seen; inserts = small.inserts; count = small.count; bytes = small.bytes })
 
-  module _ (row key : List ℕ) where
-    module _ (t : Bool) (e : t ≡ is_blank (entry_of row key)) where
-      pub blank_stays : t ≡ true → z ≡ blank_passed z (entry_of row key)
+  module _ (it : Entry) where
+    module _ (t : Bool) (e : t ≡ is_blank it) where
+      pub blank_stays : t ≡ true → z ≡ blank_passed z it
       blank_stays h = rw (← e, h, blank_passed)
 
-      pub used_behind : (r : Pass) → t ≡ false → r ≡ wrong z → r ≡ blank_passed z (entry_of row key)
+      pub used_behind : (r : Pass) → t ≡ false → r ≡ wrong z → r ≡ blank_passed z it
       used_behind r h f = rw (← e, h, blank_passed) f
 
-    module _ (t : Bool) (e : t ≡ insert_right b z (entry_of row key)) where
-      pub wrong_insert : (r : Pass) → t ≡ false → r ≡ wrong z → r ≡ insert_passed b z (entry_of row key)
+    module _ (t : Bool) (e : t ≡ insert_right b z it) where
+      pub wrong_insert : (r : Pass) → t ≡ false → r ≡ wrong z → r ≡ insert_passed b z it
       wrong_insert r h f = rw (← e, h, insert_passed) f
 
       module _ (h : t ≡ true) where
-        pub right_insert : (r : Pass) → r ≡ with_insert z (entry_of row key) → r ≡ insert_passed b z (entry_of row key)
+        pub right_insert : (r : Pass) → r ≡ with_insert z it → r ≡ insert_passed b z it
         right_insert r f = rw (← e, h, insert_passed) f
 
-        pub insert_inside : b.filled ≤ 65536 → get_or row 3 0 ≤ 65536
+        pub insert_inside : b.filled ≤ 65536 → it.to ≤ 65536
         unfolding insert_right
-        insert_inside l = omega (arith, place_of_an_insert b z (entry_of row key) (rw (← e) h))
+        insert_inside l = omega (arith, place_of_an_insert b z it (rw (← e) h))
 
-        pub insert_small : (r : Pass) → r ≡ with_insert z (entry_of row key) → z.seen < b.used → b.filled ≤ 65536 → Small b r
+        pub insert_small : (r : Pass) → r ≡ with_insert z it → z.seen < b.used → b.filled ≤ 65536 → Small b r
         insert_small r f k l =
             rw f
             (record {
@@ -179,41 +168,41 @@ module _ (b : Bounds) (z : Pass) (small : Small b z) where
               bytes = omega (arith, small.bytes, insert_inside l);
             })
 
-    module _ (page : List ℕ) (n : ℕ) (v : Seeing b page n) (t : Bool) (e : t ≡ chunk_right b page z (entry_of row key)) where
-      pub wrong_chunk : (r : Pass) → t ≡ false → r ≡ wrong z → r ≡ chunk_passed b page z (entry_of row key)
+    module _ (page : List ℕ) (n : ℕ) (v : Seeing b page n) (t : Bool) (e : t ≡ chunk_right b page z it) where
+      pub wrong_chunk : (r : Pass) → t ≡ false → r ≡ wrong z → r ≡ chunk_passed b page z it
       wrong_chunk r h f = rw (← e, h, chunk_passed) f
 
       module _ (h : t ≡ true) where
-        pub right_chunk : (r : Pass) → r ≡ with_chunk page z (entry_of row key) → r ≡ chunk_passed b page z (entry_of row key)
+        pub right_chunk : (r : Pass) → r ≡ with_chunk page z it → r ≡ chunk_passed b page z it
         right_chunk r f = rw (← e, h, chunk_passed) f
 
-        lying : Lying b.low (get_or row 2 0) (get_or row 3 0)
+        lying : Lying b.low it.from it.to
         unfolding chunk_right
-        lying = places_of_a_chunk b.low (entry_of row key) (and_left (chunk_lies b.low (entry_of row key)) _ (rw e at h))
+        lying = places_of_a_chunk b.low it (and_left (chunk_lies b.low it) _ (rw e at h))
 
-        pub right_chunk_some : get_or row 2 0 < get_or row 3 0
+        pub right_chunk_some : it.from < it.to
         right_chunk_some = lying.some
 
-        pub right_chunk_end : get_or row 3 0 ≤ n
+        pub right_chunk_end : it.to ≤ n
         right_chunk_end = omega (arith, lying.in_low, v.low_in)
 
         right_laid : Laid page n
         right_laid = v.laid (omega (arith, lying, v.low_in))
 
-        pub right_chunk_sum : get_or row 4 0 ≤ 65536
+        pub right_chunk_sum : it.sum ≤ 65536
         unfolding chunk_right
         right_chunk_sum =
-            let f : get_or row 4 0 ≡ values_size page (get_or row 2 0) (get_or row 3 0) =
-            eqb-true _ _ (and_left (eqb (get_or row 4 0) (values_size page (get_or row 2 0) (get_or row 3 0))) _ (and_right (chunk_lies b.low (entry_of row key)) _ (rw e at h))) in
+            let f : it.sum ≡ values_size page it.from it.to =
+            eqb-true _ _ (and_left (eqb it.sum (values_size page it.from it.to)) _ (and_right (chunk_lies b.low it) _ (rw e at h))) in
             omega (
               arith,
               f,
               v.short,
-              values_size_is_a_difference page n right_laid (get_or row 2 0) (get_or row 3 0) (omega (arith, lying)) right_chunk_end,
-              start_inside page n right_laid (get_or row 3 0) right_chunk_end,
+              values_size_is_a_difference page n right_laid it.from it.to (omega (arith, lying)) right_chunk_end,
+              start_inside page n right_laid it.to right_chunk_end,
             )
 
-        pub chunk_small : (r : Pass) → r ≡ with_chunk page z (entry_of row key) → z.seen < b.used → Small b r
+        pub chunk_small : (r : Pass) → r ≡ with_chunk page z it → z.seen < b.used → Small b r
         chunk_small r f k =
             rw f
             (record {
@@ -224,20 +213,20 @@ module _ (b : Bounds) (z : Pass) (small : Small b z) where
             })
 
     module _ (page : List ℕ) where
-      pub stays_wrong : not z.right ≡ true → z ≡ passed b page z (entry_of row key)
+      pub stays_wrong : not z.right ≡ true → z ≡ passed b page z it
       unfolding passed
-      stays_wrong h = sym (by_tests b page z (entry_of row key) (not-true z.right h) refl refl)
+      stays_wrong h = sym (by_tests b page z it (not-true z.right h) refl refl)
 
       module _ (h : not z.right ≡ false) where
-        pub behind_the_used : (r : Pass) → b.used ≤ z.seen → r ≡ blank_passed z (entry_of row key) → r ≡ passed b page z (entry_of row key)
+        pub behind_the_used : (r : Pass) → b.used ≤ z.seen → r ≡ blank_passed z it → r ≡ passed b page z it
         unfolding passed
-        behind_the_used r l e = e ∙ sym (by_tests b page z (entry_of row key) (not-false z.right h) (le-ltb z.seen b.used l) refl)
+        behind_the_used r l e = e ∙ sym (by_tests b page z it (not-false z.right h) (le-ltb z.seen b.used l) refl)
 
         module _ (l : z.seen < b.used) where
-          pub an_insert_more : (r : Pass) → get_or row 0 0 ≡ 1 → r ≡ insert_passed b z (entry_of row key) → r ≡ passed b page z (entry_of row key)
+          pub an_insert_more : (r : Pass) → it.kind ≡ 1 → r ≡ insert_passed b z it → r ≡ passed b page z it
           unfolding passed
-          an_insert_more r k e = e ∙ sym (by_tests b page z (entry_of row key) (not-false z.right h) (lt-ltb z.seen b.used l) (eq-eqb (get_or row 0 0) 1 k))
+          an_insert_more r k e = e ∙ sym (by_tests b page z it (not-false z.right h) (lt-ltb z.seen b.used l) (eq-eqb it.kind 1 k))
 
-          pub a_chunk_more : (r : Pass) → (get_or row 0 0 ≡ 1 → ⊥) → r ≡ chunk_passed b page z (entry_of row key) → r ≡ passed b page z (entry_of row key)
+          pub a_chunk_more : (r : Pass) → (it.kind ≡ 1 → ⊥) → r ≡ chunk_passed b page z it → r ≡ passed b page z it
           unfolding passed
-          a_chunk_more r k e = e ∙ sym (by_tests b page z (entry_of row key) (not-false z.right h) (lt-ltb z.seen b.used l) (ne_eqb (get_or row 0 0) 1 k))
+          a_chunk_more r k e = e ∙ sym (by_tests b page z it (not-false z.right h) (lt-ltb z.seen b.used l) (ne_eqb it.kind 1 k))

@@ -1,6 +1,6 @@
 -- Laws of the pass over the list, on plain values.
 pub mod Entries
-pub mod Passes
 pub mod Rises
 pub mod Walks
 pub mod Zeros
+pub mod Behind

@@ -2,13 +2,14 @@
 use mathlib.Core.Path.{◌≡◌, refl, sym, ap, ◌∙◌}
 use mathlib.Core.Bool.{Bool, true, false, not, ◌&&◌, false≢true, true≢false}
 use mathlib.Core.List.{List, [], ◌∷◌, ◌++◌}
-use Prim.Native.Nat.{ℕ, ◌+◌, ◌*◌, ◌^◌, ◌<◌}
+use Prim.Native.Nat.{ℕ, ◌+◌, ◌-◌, ◌*◌, ◌^◌, ◌<◌}
 use native.Mathlib.Nat.{mul-le-mul_right}
 use native.Mathlib.Decide.{dec_lt}
 use native.Mathlib.Omega.{arith}
 use lib.Dec.{eqb}
-use lib.ListN.{length, take, drop, take-append-drop, drop_of_length-le}
-use lib.Seq.{drop-drop}
+use Rattle.std.specs.List.{list_all}
+use lib.ListN.{length, length-drop, take, drop, take-append-drop, drop_of_length-le}
+use lib.Seq.{drop-drop, take_all}
 use borrow.Author.Tests.{eq-eqb, ne_eqb, eqb-true, not-true, not-false}
 use Rattle.bit_ops.specs.Key.{num}
 use Rattle.bit_ops.specs.Steps.{zeros}
@@ -54,18 +55,17 @@ every_left (x ∷ xs) ys h = go (is_zero x) refl (every_left xs ys) h
     go true e ih h = rw (e, every) (ih h)
     go false e ih h = rw (e, every)
 
-module _ (xs : List ℕ) (from i : ℕ) (e : every is_zero (drop from xs) ≡ every is_zero (drop i xs)) (t : Bool) (q : t ≡ every is_zero (take 8 (drop i xs))) where
-  parts : drop i xs ≡ take 8 (drop i xs) ++ drop (i + 8) xs
-  parts = sym (take-append-drop 8 (drop i xs)) ∙ ap (λ (l : List ℕ). take 8 (drop i xs) ++ l) (drop-drop 8 i xs)
+module _ (xs : List ℕ) (i : ℕ) (e : every is_zero xs ≡ every is_zero (drop (8 * i) xs)) (t : Bool) (q : t ≡ every is_zero (take 8 (drop (8 * i) xs))) where
+  parts : drop (8 * i) xs ≡ take 8 (drop (8 * i) xs) ++ drop (8 * (i + 1)) xs
+  parts =
+      let n : 8 * i + 8 ≡ 8 * (i + 1) = omega arith in
+      sym (take-append-drop 8 (drop (8 * i) xs)) ∙ ap (λ (l : List ℕ). take 8 (drop (8 * i) xs) ++ l) (drop-drop 8 (8 * i) xs ∙ ap (λ (k : ℕ). drop k xs) n)
 
-  pub eight_zeros_more : not t ≡ false → every is_zero (drop from xs) ≡ every is_zero (drop (i + 8) xs)
-  eight_zeros_more h = e ∙ ap (λ (l : List ℕ). every is_zero l) parts ∙ every_append (take 8 (drop i xs)) (drop (i + 8) xs) (sym q ∙ not-false t h)
+  pub eight_zeros_more : not t ≡ false → every is_zero xs ≡ every is_zero (drop (8 * (i + 1)) xs)
+  eight_zeros_more h = e ∙ ap (λ (l : List ℕ). every is_zero l) parts ∙ every_append (take 8 (drop (8 * i) xs)) (drop (8 * (i + 1)) xs) (sym q ∙ not-false t h)
 
-  pub one_is_not_zero : not t ≡ true → false ≡ every is_zero (drop from xs)
-  one_is_not_zero h = sym (e ∙ ap (λ (l : List ℕ). every is_zero l) parts ∙ every_left (take 8 (drop i xs)) (drop (i + 8) xs) (sym q ∙ not-true t h))
-
-pub the_last_decide : (xs : List ℕ) (from i : ℕ) (r : Bool) → every is_zero (drop from xs) ≡ every is_zero (drop i xs) → r ≡ every is_zero (drop i xs) → r ≡ every is_zero (drop from xs)
-the_last_decide xs from i r e q = q ∙ sym e
+  pub one_is_not_zero : not t ≡ true → false ≡ every is_zero xs
+  one_is_not_zero h = sym (e ∙ ap (λ (l : List ℕ). every is_zero l) parts ∙ every_left (take 8 (drop (8 * i) xs)) (drop (8 * (i + 1)) xs) (sym q ∙ not-true t h))
 
 -- ---- a key
 
@@ -107,3 +107,18 @@ module _ (xs : List ℕ) (l : length xs ≡ 32) (a b c d : Bool) (p : a ≡ ever
 
   pub four_words_are_the_key : ((a && b) && (c && d)) ≡ same_bytes xs zero_key
   four_words_are_the_key = sym all_four ∙ sym (same_as_zeros xs) ∙ ap (λ (n : ℕ). same_bytes xs (zeros n)) l
+
+-- the library's test of all bytes
+all_are_zeros : (xs : List ℕ) → list_all (λ x. eqb x 0) xs ≡ every is_zero xs
+all_are_zeros [] = refl
+all_are_zeros (x ∷ xs) = go (eqb x 0) (all_are_zeros xs)
+  where
+    go : (b : Bool) → list_all (λ x. eqb x 0) xs ≡ every is_zero xs → ◌≡◌ {A = Bool} (b && list_all (λ x. eqb x 0) xs) (elim b [ true ↦ every is_zero xs | false ↦ false ])
+    go true h = h
+    go false h = refl
+
+pub the_last_decide : (xs : List ℕ) (i n : ℕ) (r : Bool) → every is_zero xs ≡ every is_zero (drop (8 * i) xs) → i ≡ n
+    → r ≡ list_all (λ x. eqb x 0) (take (length xs - 8 * n) (drop (8 * n) xs)) → r ≡ every is_zero xs
+the_last_decide xs i n r e h q =
+    let all : take (length xs - 8 * n) (drop (8 * n) xs) ≡ drop (8 * n) xs = take_all _ (drop (8 * n) xs) (omega (arith, length-drop (8 * n) xs)) in
+    rw all at q ∙ all_are_zeros (drop (8 * n) xs) ∙ sym (rw h at e)

@@ -1,15 +1,17 @@
 // The pass over the list in which a work's soundness is tested: each entry is held against what was seen before it.
 #![tactic(auto)]
 
-ghost use Rattle.std.specs.Prelude.{◌≡◌, ◌+◌, ◌-◌, ◌≤◌, ◌<◌, length, get_or, take, drop};
+ghost use Rattle.std.specs.List.{list_all};
+ghost use Rattle.std.specs.Prelude.{◌≡◌, ◌==◌, ◌+◌, ◌-◌, ◌≤◌, ◌<◌, length, get_or, take, drop};
 ghost use Rattle.leaf_node.specs.Page.{count};
 ghost use Rattle.leaf_model.specs.Work.{zero_key};
 ghost use Rattle.leaf_work.specs.Tests.{every, is_zero, same_bytes};
-ghost use Rattle.leaf_work.specs.Flat.{entry_of, entries_of};
 ghost use Rattle.leaf_work.specs.Sound.{is_blank};
 ghost use Rattle.leaf_pass.specs.Pass.{Seeing, Small, is_behind, insert_right, chunk_lies, chunk_right, with_insert, with_chunk, wrong, insert_passed, chunk_passed, blank_passed, passed, passed_all};
 
 use bit_ops::{less, word_from};
+use leaf_node::LeafNode;
+use leaf_work::Entry;
 
 // What the pass over the list knows of the entries that it has seen.
 #[derive(Clone, Copy)]
@@ -38,16 +40,6 @@ pub struct Bounds {
 
 // ---- small tests
 
-// Subtraction as the definitions have it: nothing below zero.
-fn minus(a: usize, b: usize) -> usize
-    ensures { result ≡ a - b }
-{
-    if a < b {
-        return 0;
-    }
-    a - b
-}
-
 // Whether the eight bytes from `i` on are zeros.
 fn eight_zeros(bytes: &[u8], i: usize) -> bool
     requires { i + 8 ≤ length bytes.now }
@@ -56,36 +48,36 @@ fn eight_zeros(bytes: &[u8], i: usize) -> bool
     word_from(bytes, i) == 0
 }
 
-// Whether the bytes from `from` on are zeros, byte by byte.
-fn last_zeros_from(bytes: &[u8], from: usize) -> bool
-    ensures { result ≡ every is_zero (drop from bytes.now) }
+// Whether all bytes are zeros, byte by byte.
+fn all_zeros(bytes: &[u8]) -> bool
+    ensures { result ≡ list_all (λ x. x == 0) bytes.now }
 {
-    let mut i = from;
-    while i < bytes.len() {
-        if bytes[i] != 0 {
-            return false;
-        }
-        i += 1;
-    }
-    true
+    bytes.iter().all(|byte| *byte == 0)
 }
 
-// Whether the bytes from `from` on are zeros, eight at a time.
+// Whether all bytes are zeros, eight at a time.
+fn zero_bytes(bytes: &[u8]) -> bool
+    requires { length bytes.now ≤ 65536 }
+    ensures { result ≡ every is_zero bytes.now }
+{
+    let words = bytes.len() / 8;
+    for i in 0..words {
+        if !eight_zeros(bytes, 8 * i) {
+            return false;
+        }
+    }
+    all_zeros(&bytes[8 * words..])
+}
+
+// Whether the bytes from `from` on are zeros.
 pub fn zeros_from(bytes: &[u8], from: usize) -> bool
     requires { (from ≤ length bytes.now) × (length bytes.now ≤ 65536) }
     ensures { result ≡ every is_zero (drop from bytes.now) }
 {
-    let mut i = from;
-    while i + 8 <= bytes.len() {
-        if !eight_zeros(bytes, i) {
-            return false;
-        }
-        i += 8;
-    }
-    last_zeros_from(bytes, i)
+    zero_bytes(&bytes[from..])
 }
 
-// Whether two keys are one, byte by byte.
+// Whether two keys are one, by the definition that soundness cites.
 pub fn same_key(a: &[u8; 32], b: &[u8; 32]) -> bool
     ensures { result ≡ same_bytes a.now b.now }
 {
@@ -93,8 +85,7 @@ pub fn same_key(a: &[u8; 32], b: &[u8; 32]) -> bool
 }
 
 // Whether 32 bytes are zeros, by four words and without a branch: it is asked of every unused entry.
-fn zero_words(key: &[u8]) -> bool
-    requires { length key.now ≡ 32 }
+fn zero_words(key: &[u8; 32]) -> bool
     ensures { result ≡ same_bytes key.now zero_key }
 {
     let low = eight_zeros(key, 0) & eight_zeros(key, 8);
@@ -110,200 +101,176 @@ pub fn is_zero_key(key: &[u8; 32]) -> bool
 }
 
 // Whether an entry is unused: all of its fields are zero.
-fn is_blank(row: [usize; 5], key: &[u8; 32]) -> bool
-    ensures { result ≡ is_blank (entry_of row key.now) }
+pub fn is_blank(entry: &Entry) -> bool
+    ensures { result ≡ is_blank entry.now }
 {
-    (row[0] == 0)
-        & ((row[2] == 0) & ((row[3] == 0) & ((row[4] == 0) & (is_zero_key(key) & (row[1] == 0)))))
+    (entry.kind == 0)
+        & ((entry.from == 0)
+            & ((entry.to == 0)
+                & ((entry.sum == 0) & (is_zero_key(&entry.key) & (entry.flag == 0)))))
 }
 
 // ---- one entry
 
 // Whether a key may stand behind the records seen: above the last one, or, the first, at or above the separator.
-pub fn is_behind(pass: Pass, key: &[u8]) -> bool
-    requires { length key.now ≡ 32 }
+pub fn is_behind(pass: Pass, key: &[u8; 32]) -> bool
     ensures { result ≡ is_behind pass.count pass.last key.now }
 {
-    let last = pass.last;
     if pass.count == 0 {
-        return !less(key, &last);
+        return !less(key, &pass.last);
     }
-    less(&last, key)
+    less(&pass.last, key)
 }
 
 // Whether an insert is right where it stands.
-fn insert_right(bounds: Bounds, pass: Pass, row: [usize; 5], key: &[u8; 32]) -> bool
-    ensures { result ≡ insert_right bounds pass (entry_of row key.now) }
+fn insert_right(bounds: Bounds, pass: Pass, entry: &Entry) -> bool
+    ensures { result ≡ insert_right bounds pass entry.now }
 {
-    let fields = (row[2] <= row[3]) & ((row[4] == 0) & (row[1] <= 1));
-    let place = (row[2] == pass.end)
-        & ((row[3] <= bounds.filled) & (minus(row[3], row[2]) <= bounds.most));
-    fields & (place & is_behind(pass, key))
+    let fields = (entry.from <= entry.to) & ((entry.sum == 0) & (entry.flag <= 1));
+    let len = entry.to.saturating_sub(entry.from);
+    let place = (entry.from == pass.end) & ((entry.to <= bounds.filled) & (len <= bounds.most));
+    fields & (place & is_behind(pass, &entry.key))
 }
 
 // Whether an entry is a chunk in the passed part, with no key and no flag.
-fn chunk_lies(low: usize, row: [usize; 5], key: &[u8; 32]) -> bool
-    ensures { result ≡ chunk_lies low (entry_of row key.now) }
+fn chunk_lies(low: usize, entry: &Entry) -> bool
+    ensures { result ≡ chunk_lies low entry.now }
 {
-    (row[0] == 2) & ((row[2] < row[3]) & ((row[3] <= low) & (is_zero_key(key) & (row[1] == 0))))
+    (entry.kind == 2)
+        & ((entry.from < entry.to)
+            & ((entry.to <= low) & (is_zero_key(&entry.key) & (entry.flag == 0))))
 }
 
 // Whether a chunk is right where it stands.
-fn chunk_right(
-    bounds: Bounds,
-    pass: Pass,
-    row: [usize; 5],
-    key: &[u8; 32],
-    page: &[u8],
-    n: usize,
-) -> bool
-    requires { Seeing bounds page.now n }
-    ensures { result ≡ chunk_right bounds page.now pass (entry_of row key.now) }
+fn chunk_right(bounds: Bounds, pass: Pass, entry: &Entry, node: LeafNode) -> bool
+    requires { Seeing bounds node.page.now node.n }
+    ensures { result ≡ chunk_right bounds node.entry.page.now pass entry.now }
 {
-    if !chunk_lies(bounds.low, row, key) {
+    if !chunk_lies(bounds.low, entry) {
         return false;
     }
-    let sum = leaf_node::size_between(page, n, row[2], row[3]);
-    let behind = is_behind(pass, leaf_node::key_at(page, row[2]));
-    (row[4] == sum) & behind
+    let sum = node.size_between(entry.from, entry.to);
+    let behind = is_behind(pass, node.key(entry.from));
+    (entry.sum == sum) & behind
 }
 
 // A pass that found something wrong.
 pub fn wrong_pass(pass: Pass) -> Pass
     ensures { result ≡ wrong pass }
 {
-    let last = pass.last;
     Pass {
         right: false,
-        seen: pass.seen,
-        inserts: pass.inserts,
-        end: pass.end,
-        count: pass.count,
-        bytes: pass.bytes,
-        last: last,
+        ..pass
     }
 }
 
-fn with_insert(bounds: Bounds, pass: Pass, row: [usize; 5], key: [u8; 32]) -> Pass
-    requires { (Small bounds pass) × (pass.seen < bounds.used) × (bounds.used ≤ 4096) × (get_or row 3 0 ≤ 65536) }
-    ensures { result ≡ with_insert pass (entry_of row key) }
+fn with_insert(bounds: Bounds, pass: Pass, entry: &Entry) -> Pass
+    requires { (Small bounds pass) × (pass.seen < bounds.used) × (bounds.used ≤ 4096) × (entry.now.to ≤ 65536) }
+    ensures { result ≡ with_insert pass entry.now }
 {
     Pass {
         right: true,
         seen: pass.seen + 1,
         inserts: pass.inserts + 1,
-        end: row[3],
+        end: entry.to,
         count: pass.count + 1,
-        bytes: pass.bytes + minus(row[3], row[2]),
-        last: key,
+        bytes: pass.bytes + entry.to.saturating_sub(entry.from),
+        last: entry.key,
     }
 }
 
-fn with_chunk(
-    bounds: Bounds,
-    pass: Pass,
-    row: [usize; 5],
-    key: [u8; 32],
-    page: &[u8],
-    n: usize,
-) -> Pass
-    requires { (Seeing bounds page.now n) × (Small bounds pass) × (pass.seen < bounds.used) × (get_or row 2 0 < get_or row 3 0) × (get_or row 3 0 ≤ n) × (get_or row 4 0 ≤ 65536) }
-    ensures { result ≡ with_chunk page.now pass (entry_of row key) }
+fn with_chunk(bounds: Bounds, pass: Pass, entry: &Entry, node: LeafNode) -> Pass
+    requires { (Seeing bounds node.page.now node.n) × (Small bounds pass) × (pass.seen < bounds.used) × (entry.now.from < entry.now.to) × (entry.now.to ≤ node.n) × (entry.now.sum ≤ 65536) }
+    ensures { result ≡ with_chunk node.entry.page.now pass entry.now }
 {
-    let mut last = [0u8; 32];
-    leaf_node::copy_in(leaf_node::key_at(page, row[3] - 1), &mut last, 0);
     Pass {
         right: true,
         seen: pass.seen + 1,
-        inserts: pass.inserts,
-        end: pass.end,
-        count: pass.count + (row[3] - row[2]),
-        bytes: pass.bytes + row[4],
-        last: last,
+        count: pass.count + (entry.to - entry.from),
+        bytes: pass.bytes + entry.sum,
+        last: *node.key(entry.to - 1),
+        ..pass
     }
 }
 
 // The pass after one more entry that must be an insert, a chunk, or unused.
-fn pass_insert(bounds: Bounds, pass: Pass, row: [usize; 5], key: [u8; 32]) -> Pass
+fn pass_insert(bounds: Bounds, pass: Pass, entry: &Entry) -> Pass
     requires { (Small bounds pass) × (pass.seen < bounds.used) × (bounds.used ≤ 4096) × (bounds.filled ≤ 65536) }
-    ensures { (result ≡ insert_passed bounds pass (entry_of row key)) × (Small bounds result) }
+    ensures { (result ≡ insert_passed bounds pass entry.now) × (Small bounds result) }
 {
-    if insert_right(bounds, pass, row, &key) {
-        return with_insert(bounds, pass, row, key);
+    if insert_right(bounds, pass, entry) {
+        return with_insert(bounds, pass, entry);
     }
     wrong_pass(pass)
 }
 
-fn pass_chunk(
-    bounds: Bounds,
-    pass: Pass,
-    row: [usize; 5],
-    key: [u8; 32],
-    page: &[u8],
-    n: usize,
-) -> Pass
-    requires { (Seeing bounds page.now n) × (Small bounds pass) × (pass.seen < bounds.used) }
-    ensures { (result ≡ chunk_passed bounds page.now pass (entry_of row key)) × (Small bounds result) }
+fn pass_chunk(bounds: Bounds, pass: Pass, entry: &Entry, node: LeafNode) -> Pass
+    requires { (Seeing bounds node.page.now node.n) × (Small bounds pass) × (pass.seen < bounds.used) }
+    ensures { (result ≡ chunk_passed bounds node.entry.page.now pass entry.now) × (Small bounds result) }
 {
-    if chunk_right(bounds, pass, row, &key, page, n) {
-        return with_chunk(bounds, pass, row, key, page, n);
+    if chunk_right(bounds, pass, entry, node) {
+        return with_chunk(bounds, pass, entry, node);
     }
     wrong_pass(pass)
 }
 
-fn pass_blank(bounds: Bounds, pass: Pass, row: [usize; 5], key: [u8; 32]) -> Pass
+fn pass_blank(bounds: Bounds, pass: Pass, entry: &Entry) -> Pass
     requires { Small bounds pass }
-    ensures { (result ≡ blank_passed pass (entry_of row key)) × (Small bounds result) }
+    ensures { (result ≡ blank_passed pass entry.now) × (Small bounds result) }
 {
-    if is_blank(row, &key) {
+    if is_blank(entry) {
         return pass;
     }
     wrong_pass(pass)
 }
 
 // The pass after one more entry: an operation among the used ones, unused behind them.
-pub fn pass_entry(
-    bounds: Bounds,
-    pass: Pass,
-    row: [usize; 5],
-    key: [u8; 32],
-    page: &[u8],
-    n: usize,
-) -> Pass
-    requires { (Seeing bounds page.now n) × (Small bounds pass) }
-    ensures { (result ≡ passed bounds page.now pass (entry_of row key)) × (Small bounds result) }
+pub fn pass_entry(bounds: Bounds, pass: Pass, entry: &Entry, node: LeafNode) -> Pass
+    requires { (Seeing bounds node.page.now node.n) × (Small bounds pass) }
+    ensures { (result ≡ passed bounds node.entry.page.now pass entry.now) × (Small bounds result) }
 {
     if !pass.right {
         return pass;
     }
     if bounds.used <= pass.seen {
-        return pass_blank(bounds, pass, row, key);
+        return pass_blank(bounds, pass, entry);
     }
-    if row[0] == 1 {
-        return pass_insert(bounds, pass, row, key);
+    if entry.is_insert() {
+        return pass_insert(bounds, pass, entry);
     }
-    pass_chunk(bounds, pass, row, key, page, n)
+    pass_chunk(bounds, pass, entry, node)
 }
 
 // ---- the list
 
-// The pass over all entries.
-pub fn pass_list(
-    bounds: Bounds,
-    start: Pass,
-    rows: &[[usize; 5]],
-    keys: &[[u8; 32]],
-    page: &[u8],
-    n: usize,
-) -> Pass
-    requires { (Seeing bounds page.now n) × (Small bounds start) × (length rows.now ≡ length keys.now) }
-    ensures { (result ≡ passed_all bounds page.now start (entries_of rows.now keys.now)) × (Small bounds result) }
+// The pass over entries, one by one.
+fn pass_each(bounds: Bounds, start: Pass, list: &[Entry], node: LeafNode) -> Pass
+    requires { (Seeing bounds node.page.now node.n) × (Small bounds start) }
+    ensures { (result ≡ passed_all bounds node.entry.page.now start list.now) × (Small bounds result) }
 {
     let mut pass = start;
-    let mut i = 0;
-    while i < rows.len() {
-        pass = pass_entry(bounds, pass, rows[i], keys[i], page, n);
-        i += 1;
+    for entry in list {
+        pass = pass_entry(bounds, pass, entry, node);
     }
     pass
+}
+
+fn all_blank(list: &[Entry]) -> bool
+    ensures { result ≡ list_all is_blank list.now }
+{
+    list.iter().all(|entry| is_blank(entry))
+}
+
+// The pass over all entries, by the one over the used ones: any other that isn't unused is wrong. So the long rest of a list costs one small
+// test an entry.
+pub fn pass_list(bounds: Bounds, start: Pass, list: &[Entry], node: LeafNode) -> Pass
+    requires { (Seeing bounds node.page.now node.n) × (Small bounds start) }
+    ensures { (result ≡ passed_all bounds node.entry.page.now start list.now) × (Small bounds result) }
+{
+    let used = bounds.used.min(list.len());
+    let pass = pass_each(bounds, start, &list[..used], node);
+    if all_blank(&list[used..]) {
+        return pass;
+    }
+    wrong_pass(pass)
 }

@@ -11,6 +11,4 @@ pub mod Readiness
 pub mod PendingRecords
 pub mod Canonical
 pub mod Examples
-pub mod Records
 pub mod Everyone
-pub mod FlatList

@@ -1,7 +1,6 @@
 -- The updater over bytes, in the order in which document 01 tells it. `leaf_model` has the same over records.
 pub mod Tests
 pub mod Lent
-pub mod Flat
 pub mod Pending
 pub mod Sound
 pub mod TakingUp

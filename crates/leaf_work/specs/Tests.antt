@@ -1,5 +1,7 @@
 -- Small tests, flags and keys that are there or not.
 use Rattle.std.specs.Prelude.{Bool, true, false, not, List, [], ◌∷◌, ℕ, eqb}
+use Rattle.std.specs.Borrow.{Bor}
+use Rattle.std.specs.Prelude as std
 use Rattle.std.proofs.Math.Option.{Option, none, some}
 
 -- the test holds of every element
@@ -33,3 +35,8 @@ bit false = 0
 abbrev pub key_if : Bool → List ℕ → Option (List ℕ)
 key_if true k = some k
 key_if false k = none
+
+-- a key that is lent or not
+abbrev pub lent_key : std.Option (Bor (List ℕ)) → Option (List ℕ)
+lent_key std.None = none
+lent_key (std.Some k) = some k.now

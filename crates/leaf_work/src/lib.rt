@@ -2,9 +2,13 @@
 // Ported from nomt/src/beatree/ops/update/leaf_updater.rs of thrumdev/nomt: `LeafUpdater`, `LeafGauge` and `LeafOp`.
 #![tactic(auto)]
 
-ghost use Rattle.std.specs.Prelude.{◌≡◌};
-ghost use Rattle.leaf_work.specs.Lent.{separator_of};
+ghost use Rattle.std.specs.Prelude.{◌≡◌, eqb};
+ghost use Rattle.leaf_model.specs.Work.{below_cutoff};
+ghost use Rattle.leaf_work.specs.Tests.{is_set, key_if, lent_key};
+ghost use Rattle.leaf_work.specs.Lent.{is_open, is_waiting, is_done, cutoff_of, last_of, separator_of, reads_base, regarded};
 ghost use Rattle.leaf_work.specs.Outcome.{in_scope_of};
+
+use bit_ops::less;
 
 // The work record. Turn and flags are numbers, since any bytes may be lent. A key whose flag isn't set is zeros.
 #[repr(C)]
@@ -50,24 +54,95 @@ pub struct Entry {
     pub key: [u8; 32],
 }
 
-// Whether a key may still come: it is below the cutoff, where there is one. Reads the work record alone and refuses nothing:
-// a nonzero flag is set.
-pub fn is_in_scope(work: Work, key: &[u8; 32]) -> bool
-    ensures { result ≡ in_scope_of work key.now }
+// A key that is lent where its flag is set: any number but 0 sets it.
+pub fn key_if(flag: u8, key: &[u8; 32]) -> Option<&[u8; 32]>
+    ensures { lent_key result ≡ key_if (is_set flag) key.now }
 {
-    if work.cut == 0 {
-        return true;
-    }
-    let cutoff = work.cutoff;
-    bit_ops::less(key, &cutoff)
+    (flag != 0).then_some(key)
 }
 
-// The current separator: the override, else the latest base's. Reads the work record alone and refuses nothing.
-pub fn separator(work: Work) -> [u8; 32]
-    ensures { result ≡ separator_of work }
+// Whether a key is below the cutoff, where there is one.
+pub fn is_below(key: &[u8; 32], cutoff: Option<&[u8; 32]>) -> bool
+    ensures { result ≡ below_cutoff (lent_key cutoff.entry) key.now }
 {
-    if work.over == 0 {
-        return work.latest;
+    match cutoff {
+        Some(cutoff) => less(key, cutoff),
+        None => true,
     }
-    work.overriding
+}
+
+impl Work {
+    pub fn is_open(&self) -> bool
+        ensures { result ≡ is_open self.now }
+    {
+        self.turn == 1
+    }
+
+    pub fn is_waiting(&self) -> bool
+        ensures { result ≡ is_waiting self.now }
+    {
+        self.turn == 2
+    }
+
+    pub fn is_done(&self) -> bool
+        ensures { result ≡ is_done self.now }
+    {
+        self.turn == 3
+    }
+
+    // The cutoff, where there is one.
+    pub fn cutoff(&self) -> Option<&[u8; 32]>
+        ensures { lent_key result ≡ cutoff_of self.now }
+    {
+        key_if(self.cut, &self.cutoff)
+    }
+
+    // The last key taken, where there is one.
+    pub fn last_taken(&self) -> Option<&[u8; 32]>
+        ensures { lent_key result ≡ last_of self.now }
+    {
+        key_if(self.taken, &self.last)
+    }
+
+    // Whether a key may still come: it is below the cutoff, where there is one. Refuses nothing.
+    pub fn is_in_scope(&self, key: &[u8; 32]) -> bool
+        ensures { result ≡ in_scope_of self.now key.now }
+    {
+        is_below(key, self.cutoff())
+    }
+
+    // The current separator: the override, else the latest base's. Refuses nothing.
+    pub fn separator(&self) -> [u8; 32]
+        ensures { result ≡ separator_of self.now }
+    {
+        if self.over == 0 {
+            return self.latest;
+        }
+        self.overriding
+    }
+
+    // Whether the lent page is read: an open work with a base reads it.
+    pub fn reads_base(&self) -> bool
+        ensures { result ≡ reads_base self.now }
+    {
+        self.is_open() & (self.based != 0)
+    }
+
+    // The lent page as the work regards it: none of its bytes where it is ignored.
+    pub fn regard<'a>(&self, page: &'a [u8]) -> &'a [u8]
+        ensures { result.now ≡ regarded self.now page.now }
+    {
+        if self.reads_base() {
+            return page;
+        }
+        &page[..0]
+    }
+}
+
+impl Entry {
+    pub fn is_insert(&self) -> bool
+        ensures { result ≡ eqb self.now.kind 1 }
+    {
+        self.kind == 1
+    }
 }

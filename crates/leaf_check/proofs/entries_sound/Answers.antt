@@ -5,7 +5,7 @@ use Rattle.leaf_check.proofs.Sounds.{it_sees_as_well, it_begins_small, same_low,
 use Rattle.leaf_check.proofs.entries_sound.Goals as goal
 
 pub pass_list-pass-requires : goal.pass_list-pass-requires
-pass_list-pass-requires c = (search (it_sees_as_well, rules), search (it_begins_small, rules), search rules)
+pass_list-pass-requires c = (search (it_sees_as_well, rules), search (it_begins_small, rules))
 
 pub returns-then-not-pass : goal.returns-then-not-pass
 returns-then-not-pass c = search (a_wrong_entry, rules)

@@ -7,8 +7,8 @@ use Rattle.leaf_check.proofs.is_sound.Goals as goal
 pub returns-then-not-record_right : goal.returns-then-not-record_right
 returns-then-not-record_right c = search (wrong_record, rules)
 
-pub returns-then-not-work-rows : goal.returns-then-not-work-rows
-returns-then-not-work-rows c = search (not_within, rules)
+pub returns-then-not-work-list : goal.returns-then-not-work-list
+returns-then-not-work-list c = search (not_within, rules)
 
 pub zeros_from-requires : goal.zeros_from-requires
 zeros_from-requires c = (search (the_filled_part_is_inside, rules), search rules)
@@ -17,10 +17,7 @@ pub returns-then-not-zeros_from : goal.returns-then-not-zeros_from
 returns-then-not-zeros_from c = search (not_clear, rules)
 
 pub entries_sound-requires : goal.entries_sound-requires
-entries_sound-requires c =
-    let counted = c.records_in-n.ensures in
-    let work = c.args.work in
-    (search rules, the_pass_sees _ (search rules) work _ (search rules) _ counted.0 counted.1 _ _ c.if-not-work-rows.false-raw (search rules) (search rules), search rules)
+entries_sound-requires c = (search rules, search (the_pass_sees, rules))
 
 pub returns : goal.returns
 returns c = search (the_entries_decide, rules)

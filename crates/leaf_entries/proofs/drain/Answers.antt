@@ -1,25 +1,13 @@
 -- `leaf_entries::drain` meets its contract.
-use Rattle.std.proofs.Common.{◌≡◌, ℕ, ◌+◌, ◌-◌, ◌<◌, length, set, ap, ◌∙◌, arith}
+-- Assumes nothing.
+use Rattle.std.proofs.Common.{rules}
 use Rattle.leaf_work.specs.Lent.{blank}
-use Rattle.leaf_entries.proofs.Laying.{clearing, clearing_nothing, clearing_one_more, clearing_all}
+use Rattle.leaf_entries.proofs.Laying.{emptied, nothing_to_empty}
 use Rattle.leaf_entries.proofs.drain.Goals as goal
 
-pub loop-i-preserved : goal.loop-i-preserved
-loop-i-preserved c =
-    let list = c.args.list.now in
-    let from = c.args.from in
-    let i = c.loop-i.i in
-    let known = c.loop-i.invariant in
-    let less = c.loop-i-test.true in
-    let inside : i - from < length list - from = omega (arith, known.0, less, c.loop-i.auto.list) in
-    let e : i ≡ from + (i - from) = omega (arith, known.0) in
-    let g : i - from + 1 ≡ i + 1 - from = omega (arith, known.0) in
-    (omega (arith, known.0), omega (arith, inside, known.0), ap (λ (k : ℕ). set c.loop-i.list k c.blank_entry.result) e ∙ ap (λ x. set c.loop-i.list (from + (i - from)) x) c.blank_entry.ensures ∙ ap (λ l. set l (from + (i - from)) blank) known.2 ∙ clearing_one_more blank list from (i - from) inside ∙ ap (clearing blank list from) g)
+pub returns-then-from-list : goal.returns-then-from-list
+returns-then-from-list c =
+    emptied blank c.args.list.now c.args.from c.fill.new.self _ c.if-from-list.true (rw c.blank_entry.ensures at (c.fill.ensures.after (λ y e. e))) (search rules)
 
-pub returns : goal.returns
-returns c =
-    let list = c.args.list.now in
-    let from = c.args.from in
-    let known = c.loop-i.invariant in
-    let e : c.loop-i.i - from ≡ length list - from = omega (arith, c.loop-i-test.false, known.1, c.loop-i.auto.list) in
-    known.2 ∙ ap (clearing blank list from) e ∙ clearing_all blank list from
+pub returns-else-from-list : goal.returns-else-from-list
+returns-else-from-list c = nothing_to_empty blank c.args.list.now c.args.from c.if-from-list.false

@@ -1,17 +1,17 @@
 -- `leaf_pass::chunk_right` meets its contract.
 -- Assumes nothing.
 use Rattle.std.proofs.Common.{rules}
-use Rattle.leaf_pass.proofs.Entries.{not_a_chunk, chunk_laid, chunk_order, chunk_end, first_key_inside, chunk_by}
+use Rattle.leaf_pass.proofs.Entries.{not_a_chunk, chunk_order, chunk_end, chunk_first, chunk_by}
 use Rattle.leaf_pass.proofs.chunk_right.Goals as goal
 
 pub returns-then-not-chunk_lies : goal.returns-then-not-chunk_lies
 returns-then-not-chunk_lies c = search (not_a_chunk, rules)
 
 pub size_between-sum-requires : goal.size_between-sum-requires
-size_between-sum-requires c = (search (chunk_laid, rules), search (chunk_order, rules), search (chunk_end, rules))
+size_between-sum-requires c = (search (chunk_order, rules), search (chunk_end, rules))
 
-pub key_at-requires : goal.key_at-requires
-key_at-requires c = search (first_key_inside, rules)
+pub key-requires : goal.key-requires
+key-requires c = search (chunk_first, rules)
 
 pub returns : goal.returns
 returns c = search (chunk_by, rules)

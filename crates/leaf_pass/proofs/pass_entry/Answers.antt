@@ -10,8 +10,8 @@ returns-then-not-pass c = (search (stays_wrong, rules), search rules)
 pub returns-then-bounds-pass : goal.returns-then-bounds-pass
 returns-then-bounds-pass c = (search (behind_the_used, rules), search rules)
 
-pub returns-then-row-eq1 : goal.returns-then-row-eq1
-returns-then-row-eq1 c = (search (an_insert_more, rules), search rules)
+pub returns-then-is_insert : goal.returns-then-is_insert
+returns-then-is_insert c = (search (an_insert_more, rules), search rules)
 
 pub returns : goal.returns
 returns c = (search (a_chunk_more, rules), search rules)

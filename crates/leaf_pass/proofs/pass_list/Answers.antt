@@ -1,11 +1,11 @@
 -- `leaf_pass::pass_list` meets its contract.
 -- Assumes nothing.
 use Rattle.std.proofs.Common.{rules}
-use Rattle.leaf_pass.proofs.Passes.{one_entry_more, all_entries}
+use Rattle.leaf_pass.proofs.Behind.{nothing_behind, something_behind, wrong_is_small}
 use Rattle.leaf_pass.proofs.pass_list.Goals as goal
 
-pub loop-i-preserved : goal.loop-i-preserved
-loop-i-preserved c = (search (one_entry_more, rules), search rules)
+pub returns-then-all_blank : goal.returns-then-all_blank
+returns-then-all_blank c = (search (nothing_behind, rules), search rules)
 
 pub returns : goal.returns
-returns c = (search (all_entries, rules), search rules)
+returns c = (search (something_behind, rules), search (wrong_is_small, rules))
