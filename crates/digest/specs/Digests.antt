@@ -1,5 +1,5 @@
 -- Document 01, "To the testers": "Each call's contract settles reply, work record and every lent byte from the inputs, refused calls as well".
--- What a digest answers and leaves: the contracts' own words, by value and of a work that is lent. Primes are what is there after the call.
+-- What a digest answers in numbers and leaves: the contract's own words. Primes are what is there after the call.
 use Rattle.std.specs.Prelude.{◌≡◌, List, ℕ}
 use Rattle.leaf_work.specs.declared.Work.{Work}
 use Rattle.leaf_work.specs.declared.Entry.{Entry}

@@ -1,44 +1,42 @@
 -- The records of an entry are raised, the last one first. Assumes nothing.
-use mathlib.Core.Path.{◌≡◌, refl, sym, ap, subst, ◌∙◌}
+use mathlib.Core.Path.{◌≡◌, refl, sym, ap, ◌∙◌}
 use mathlib.Core.Logic.{inl, inr}
-use mathlib.Core.Bool.{Bool, true, false, cond, true≢false}
+use mathlib.Core.Bool.{Bool, true, false, cond}
 use mathlib.Core.List.{List, [], ◌∷◌, ◌++◌}
-use Prim.Native.Nat.{ℕ, zero, suc, ◌+◌, ◌-◌, ◌≤◌, ◌<◌}
+use Prim.Native.Nat.{ℕ, ◌+◌, ◌-◌, ◌≤◌, ◌<◌}
 use native.Mathlib.Omega.{arith}
-use lib.Dec.{eqb}
-use lib.ListN.{length, get_or, set}
-use borrow.Author.Tests.{eq-eqb, ne_eqb, eqb-true, eqb-false}
+use lib.ListN.{length, set}
+use borrow.Author.Tests.{eq-eqb, ne_eqb}
 use Rattle.leaf_node.specs.Record.{Record, values, total}
-use Rattle.leaf_node.specs.Page.{record_at, records_between}
+use Rattle.leaf_node.specs.Page.{records_between}
 use Rattle.leaf_work.specs.declared.Entry.{Entry}
 use Rattle.leaf_work.specs.Lent.{an_insert}
 use Rattle.leaf_work.specs.Tests.{is_zero}
-use Rattle.leaf_work.specs.Flat.{row_of, rows_of, keys_of}
 use Rattle.leaf_work.specs.Pending.{held, records_in}
 use Rattle.leaf_cut.specs.Records.{entry_records}
 use Rattle.leaf_cut.proofs.Parts.{an_insert_holds_itself, a_chunk_holds_its_records}
 use Rattle.leaf_builder.proofs.Writing.{records_none, total_one}
 use Rattle.leaf_builder.proofs.Rebuilding.{records_join}
-use Rattle.leaf_write.specs.Filling.{insert_record, InsertIn}
+use Rattle.leaf_write.specs.Filling.{insert_record}
 use Rattle.leaf_move.specs.Moving.{under}
 use Rattle.leaf_move.proofs.Under.{under_none}
 use Rattle.leaf_raise.specs.declared.Top.{Top}
-use Rattle.leaf_raise.specs.Raising.{lower_by, Room, Raised, RecordThere, EntryBelow}
+use Rattle.leaf_raise.specs.Raising.{lower_by, Room, Raised, EntryBelow}
 use Rattle.leaf_raise.proofs.Raising.{a_moved_record_is_raised, nothing_is_raised, below_no_record, room_for_the_last, tops_join, room_is_left, both_are_raised}
 use Rattle.leaf_raise.proofs.Sources.{range_cons}
 use Rattle.digest_keep.specs.declared.Lifted.{Lifted}
-use Rattle.digest_keep.specs.Lifting.{lifted_of, RoomFor, last_record, LastThere, Raisable}
-use Rattle.digest_keep.proofs.Lists.{either_kind, map_set}
+use Rattle.digest_keep.specs.Lifting.{lifted_of, last_record, LastThere, Raisable}
+use Rattle.digest_keep.proofs.Lists.{either_kind}
 
 -- ---- the last records of an entry
 
 -- its last i records
 unfoldable pub last_records : List ℕ → List ℕ → Entry → ℕ → List Record
-last_records store page e i = cond (an_insert e) (cond (is_zero i) [] (insert_record store (row_of e) e.key ∷ [])) (records_between page (e.to - i) e.to)
+last_records store page e i = cond (an_insert e) (cond (is_zero i) [] (insert_record store e ∷ [])) (records_between page (e.to - i) e.to)
 
-module _ (store page : List ℕ) (e : Entry) (top : Top) (below : EntryBelow page (row_of e) 0 top) where
+module _ (store page : List ℕ) (e : Entry) (top : Top) (below : EntryBelow page e 0 top) where
   abbrev all : List Record
-  all = entry_records store page (row_of e) e.key 0
+  all = entry_records store page e 0
 
   abbrev last : ℕ → List Record
   last i = last_records store page e i
@@ -55,11 +53,11 @@ module _ (store page : List ℕ) (e : Entry) (top : Top) (below : EntryBelow pag
     one : records_in e ≡ 1
     one = rw (records_in, eq-eqb e.kind 1 k)
 
-    it_alone : all ≡ insert_record store (row_of e) e.key ∷ []
+    it_alone : all ≡ insert_record store e ∷ []
     unfolding insert_record held
-    it_alone = an_insert_holds_itself store page (row_of e) e.key 0 k refl
+    it_alone = an_insert_holds_itself store page e 0 k refl
 
-    last_one : last 1 ≡ insert_record store (row_of e) e.key ∷ []
+    last_one : last 1 ≡ insert_record store e ∷ []
     unfolding last_records
     last_one = rw (eq-eqb e.kind 1 k)
 
@@ -73,7 +71,7 @@ module _ (store page : List ℕ) (e : Entry) (top : Top) (below : EntryBelow pag
     its_range : all ≡ records_between page e.from e.to
     its_range =
         let z : e.from + 0 ≡ e.from = omega arith in
-        a_chunk_holds_its_records store page (row_of e) e.key 0 n (below.chunk n).order ∙ ap (λ (i : ℕ). records_between page i e.to) z
+        a_chunk_holds_its_records store page e 0 n (below.chunk n).order ∙ ap (λ (i : ℕ). records_between page i e.to) z
 
     last_range : (i : ℕ) → last i ≡ records_between page (e.to - i) e.to
     unfolding last_records
@@ -126,7 +124,7 @@ module _ (list₀ : List Entry) (store₀ page : List ℕ) (e : Entry) (start : 
   -- its last i records are
   pub record EntryRaised (list : List Entry) (store : List ℕ) (top : Top) (i : ℕ) : Type 0 where
     pub upto : i ≤ records
-    pub raised : Raised (rows_of list₀) (keys_of list₀) store₀ start (last_records store₀ page e i) (rows_of list) (keys_of list) store
+    pub raised : Raised list₀ store₀ start (last_records store₀ page e i) list store
     pub top_is : top ≡ lower_by start (length (last_records store₀ page e i)) (total (last_records store₀ page e i))
 
   pub no_record_is_raised : EntryRaised list₀ store₀ start 0
@@ -134,16 +132,16 @@ module _ (list₀ : List Entry) (store₀ page : List ℕ) (e : Entry) (start : 
       let z = none store₀ page e start req.below in
       record {
         upto = omega arith;
-        raised = rw z (nothing_is_raised (rows_of list₀) (keys_of list₀) store₀ start);
+        raised = rw z (nothing_is_raised list₀ store₀ start);
         top_is = rw z (below_no_record start);
       }
 
   module _ (list : List Entry) (store : List ℕ) (top : Top) (i : ℕ) (w : EntryRaised list store top i) where
     pub the_entry_is_raised : records ≤ i
-        → (Raised (rows_of list₀) (keys_of list₀) store₀ start (entry_records store₀ page (row_of e) e.key 0) (rows_of list) (keys_of list) store)
-        × (top ≡ lower_by start (length (entry_records store₀ page (row_of e) e.key 0)) (total (entry_records store₀ page (row_of e) e.key 0)))
+        → (Raised list₀ store₀ start (entry_records store₀ page e 0) list store)
+        × (top ≡ lower_by start (length (entry_records store₀ page e 0)) (total (entry_records store₀ page e 0)))
     the_entry_is_raised past =
-        let q : last_records store₀ page e i ≡ entry_records store₀ page (row_of e) e.key 0 =
+        let q : last_records store₀ page e i ≡ entry_records store₀ page e 0 =
         ap (last_records store₀ page e) (omega (arith, past, w.upto, many)) ∙ all_are_last store₀ page e start req.below in
         (rw q at w.raised, rw q at w.top_is)
 
@@ -157,14 +155,14 @@ module _ (list₀ : List Entry) (store₀ page : List ℕ) (e : Entry) (start : 
       abbrev done : List Record
       done = last_records store₀ page e i
 
-      part_room : Room (rows_of list₀) (keys_of list₀) store₀ start ((r ∷ []) ++ done)
+      part_room : Room list₀ store₀ start ((r ∷ []) ++ done)
       part_room =
           let t = together store₀ page e start req.below i less_in in
-          let q : Room (rows_of list₀) (keys_of list₀) store₀ start (before store₀ page e start req.below i less_in ++ ((r ∷ []) ++ done)) = rw t at req.room in
-          room_for_the_last (rows_of list₀) (keys_of list₀) store₀ start (before store₀ page e start req.below i less_in) ((r ∷ []) ++ done) q
+          let q : Room list₀ store₀ start (before store₀ page e start req.below i less_in ++ ((r ∷ []) ++ done)) = rw t at req.room in
+          room_for_the_last list₀ store₀ start (before store₀ page e start req.below i less_in) ((r ∷ []) ++ done) q
 
-      room : Room (rows_of list) (keys_of list) store top (r ∷ [])
-      room = rw w.top_is (room_is_left (rows_of list₀) (keys_of list₀) store₀ start (r ∷ []) done part_room (rows_of list) (keys_of list) store w.raised)
+      room : Room list store top (r ∷ [])
+      room = rw w.top_is (room_is_left list₀ store₀ start (r ∷ []) done part_room list store w.raised)
 
       -- of an insert nothing is raised yet
       module _ (k : e.kind ≡ 1) where
@@ -192,7 +190,7 @@ module _ (list₀ : List Entry) (store₀ page : List ℕ) (e : Entry) (start : 
         chunk = λ n. let b = req.below.chunk n in record { there = omega (arith, b.there, so_many store₀ page e start req.below n, less_in); laid = b.laid (omega (arith, so_many store₀ page e start req.below n, less_in)) };
         within = λ n. omega (arith, so_many store₀ page e start req.below n, less_in);
         room = rw same_record (record {
-          row = omega (arith, room.few);
+          entry = omega (arith, room.few);
           place = omega (arith, room.short, total_one r);
           fits = omega (arith, room.fits, total_one r);
           store_in = room.store_in;
@@ -200,22 +198,19 @@ module _ (list₀ : List Entry) (store₀ page : List ℕ) (e : Entry) (start : 
       }
 
       pub one_more_is_raised : (l : Lifted) (store' : List ℕ) (list' : List Entry) → (l ≡ lifted_of top (last_record store page e i)) × (store' ≡ under store top.at (last_record store page e i).value)
-          → list' ≡ set list l.top.row l.entry → EntryRaised list' store' l.top (i + 1)
+          → list' ≡ set list l.top.entry l.entry → EntryRaised list' store' l.top (i + 1)
       one_more_is_raised l store' list' f g =
           let fl : l ≡ lifted_of top r = rw same_record at f.0 in
           let fs : store' ≡ under store top.at r.value = rw same_record at f.1 in
           let lt : l.top ≡ lower_by top 1 (length r.value) = ap (λ (x : Lifted). x.top) fl in
-          let rows : rows_of list' ≡ set (rows_of list) l.top.row (row_of l.entry) = ap rows_of g ∙ map_set row_of list l.top.row l.entry in
-          let keys : keys_of list' ≡ set (keys_of list) l.top.row l.entry.key = ap keys_of g ∙ map_set (λ (x : Entry). x.key) list l.top.row l.entry in
-          let one : Raised (rows_of list) (keys_of list) store top (r ∷ []) (rows_of list') (keys_of list') store' =
-          a_moved_record_is_raised (rows_of list) (keys_of list) store top r room l.top lt (rows_of list') (keys_of list') store'
-          (rows ∙ ap (λ (x : Lifted). set (rows_of list) l.top.row (row_of x.entry)) fl ∙ rw lt) (keys ∙ ap (λ (x : Lifted). set (keys_of list) l.top.row x.entry.key) fl) fs in
-          let one' : Raised (rows_of list) (keys_of list) store (lower_by start (length done) (total done)) (r ∷ []) (rows_of list') (keys_of list') store' = rw w.top_is at one in
+          let one : Raised list store top (r ∷ []) list' store' =
+          a_moved_record_is_raised list store top r room l.top lt list' store' (g ∙ ap (λ (x : Lifted). set list l.top.entry x.entry) fl ∙ rw lt) fs in
+          let one' : Raised list store (lower_by start (length done) (total done)) (r ∷ []) list' store' = rw w.top_is at one in
           let m = one_more store₀ page e start req.below i less_in in
           record {
             upto = omega (arith, less);
-            raised = rw m (both_are_raised (rows_of list₀) (keys_of list₀) store₀ start (r ∷ []) done part_room (rows_of list) (keys_of list) store w.raised (rows_of list') (keys_of list') store' one');
+            raised = rw m (both_are_raised list₀ store₀ start (r ∷ []) done part_room list store w.raised list' store' one');
             top_is =
                 rw m (lt ∙ ap (λ (n : ℕ). lower_by top 1 n) (sym (total_one r)) ∙ ap (λ (t : Top). lower_by t 1 (total (r ∷ []))) w.top_is
-                ∙ tops_join (rows_of list₀) (keys_of list₀) store₀ start (r ∷ []) done part_room);
+                ∙ tops_join list₀ store₀ start (r ∷ []) done part_room);
           }

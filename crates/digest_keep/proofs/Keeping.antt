@@ -1,31 +1,29 @@
 -- What a digest keeps: raised in the list, it is moved down to the start, and unused entries follow. Assumes nothing.
-use mathlib.Core.Path.{◌≡◌, refl, sym, ap, subst, ◌∙◌}
-use mathlib.Core.List.{List, [], ◌∷◌, ◌++◌, append_assoc, append-nil}
-use Prim.Native.Nat.{ℕ, zero, suc, ◌+◌, ◌-◌, ◌≤◌, ◌<◌}
+use mathlib.Core.Path.{◌≡◌, sym, ap, ◌∙◌}
+use mathlib.Core.List.{List, ◌++◌, append_assoc}
+use Prim.Native.Nat.{ℕ, zero, suc, ◌+◌, ◌-◌, ◌≤◌}
 use native.Mathlib.Omega.{arith}
-use lib.ListN.{length, take, drop, replicate, length-map, length-append, length-drop, replicate-append-replicate, length-replicate}
-use lib.Seq.{length-take-le, take_at, drop_at, drop-drop, drop-append-le, drop-append-add}
-use Rattle.bit_ops.specs.Steps.{zeros}
-use Rattle.leaf_node.specs.Record.{Record, values, total}
+use lib.ListN.{length, take, drop, replicate, length-append, replicate-append-replicate}
+use lib.Seq.{length-take-le, take_at, drop_at, drop-drop}
+use Rattle.leaf_node.specs.Record.{Record}
 use Rattle.leaf_node.specs.Page.{count}
 use Rattle.leaf_work.specs.declared.Work.{Work}
 use Rattle.leaf_work.specs.declared.Entry.{Entry}
 use Rattle.leaf_work.specs.Lent.{blank}
-use Rattle.leaf_work.specs.Flat.{row_of, rows_of, keys_of}
 use Rattle.leaf_work.specs.Digest.{inserts_of}
 use Rattle.leaf_cut.specs.declared.Cursor.{Cursor}
 use Rattle.leaf_cut.specs.declared.Gauge.{Gauge}
 use Rattle.leaf_cut.specs.declared.Span.{Span}
 use Rattle.leaf_cut.specs.Records.{records_from}
 use Rattle.leaf_move.specs.Moving.{under, settled, Spare}
-use Rattle.leaf_move.proofs.Under.{under_is, length_under}
+use Rattle.leaf_move.proofs.Under.{length_under}
 use Rattle.leaf_raise.specs.Raising.{Raised}
-use Rattle.leaf_raise.proofs.Inserts.{rows_many}
-use Rattle.leaf_merge.specs.Keeping.{kept_records, kept_list, Keeps}
+use Rattle.leaf_raise.proofs.Inserts.{inserts_many}
+use Rattle.leaf_merge.specs.Keeping.{kept_records, Keeps, KeptAs}
 use Rattle.leaf_merge.specs.Lifting.{full_top, Raises}
-use Rattle.leaf_merge.proofs.Keeping.{what_is_kept_can_be_raised, what_is_kept_is_raised, as_many_as_have_room, places_from_the_start, the_store_can_be_settled, the_settled_store}
+use Rattle.leaf_merge.proofs.Keeping.{what_is_kept_can_be_raised, as_many_as_have_room, places_from_the_start, the_store_can_be_settled, the_settled_store}
 use Rattle.digest_keep.specs.Lifting.{room_by}
-use Rattle.digest_keep.proofs.Lists.{map_under, the_list_of_its_rows_and_keys, rows_and_keys_tell}
+use Rattle.digest_keep.specs.Keeping.{KeepsIn}
 
 module _ {A : Type 0} where
   drop_replicate : (n m : ℕ) (x : A) → drop n (replicate m x) ≡ replicate (m - n) x
@@ -67,68 +65,48 @@ module _ {A : Type 0} where
 pub as_many_stand_there : (list : List Entry) (room count : ℕ) → (count ≤ room) × (room ≤ length list) → count ≤ length (take room list)
 as_many_stand_there list room count h = omega (arith, length-take-le room list h.1, h.0)
 
-pub so_few_are_kept : (w : Work) (list : List Entry) (store page : List ℕ) (n : ℕ) (at : Cursor) (left : Gauge)
-    → (Keeps w (rows_of list) (keys_of list) store page at left (room_by w.used left.count (length list))) × (n ≡ count page) × (drop w.used list ≡ replicate (length list - w.used) blank)
-    → (w.used ≤ 65536) × (left.count ≤ 98304)
-so_few_are_kept w list store page n at left req =
-    let k = req.0 in
-    let m = ap length (the_list_of_its_rows_and_keys list) in
-    (omega (arith, k.ready.used_in, k.ready.list_short), omega (arith, as_many_as_have_room w (rows_of list) (keys_of list) store page at left _ k, k.room_in, length-map list row_of, k.ready.list_short, m))
+module _ (w : Work) (list : List Entry) (store page : List ℕ) (at : Cursor) (left : Gauge) (req : KeepsIn w list store page at left)
+    (span : Span) (es : span ≡ record { used = w.used; low = w.low }) (room : ℕ) (er : room ≡ room_by w.used left.count (length list)) where
+  k : Keeps w list store page at left room
+  k = rw er req.keeps
 
-module _ (w : Work) (list : List Entry) (store page : List ℕ) (n : ℕ) (at : Cursor) (left : Gauge)
-    (req : (Keeps w (rows_of list) (keys_of list) store page at left (room_by w.used left.count (length list))) × (n ≡ count page) × (drop w.used list ≡ replicate (length list - w.used) blank))
-    (span : Span) (es : span ≡ record { used = w.used; low = w.low; n = n }) (room : ℕ) (er : room ≡ room_by w.used left.count (length list)) where
-  k : Keeps w (rows_of list) (keys_of list) store page at left room
-  k = rw er req.0
+  pub it_can_be_raised : Raises list store page span at left.bytes room
+  it_can_be_raised = rw es (what_is_kept_can_be_raised w list store page at left room k)
 
-  the_room_is_there : room ≤ length list
-  the_room_is_there = omega (arith, k.room_in, length-map list row_of)
-
-  pub it_can_be_raised : Raises (rows_of list) (keys_of list) store page span at left.bytes room
-  it_can_be_raised = rw es (what_is_kept_can_be_raised w (rows_of list) (keys_of list) store page at left room k n req.1)
-
-  module _ (list₁ : List Entry) (store₁ : List ℕ)
-      (h : Raised (rows_of list) (keys_of list) store (full_top room store left.bytes) (records_from span (rows_of list) (keys_of list) store page at) (rows_of list₁) (keys_of list₁) store₁) where
-    h' : Raised (rows_of list) (keys_of list) store (full_top room store left.bytes) (records_from (record { used = w.used; low = w.low; n = n }) (rows_of list) (keys_of list) store page at) (rows_of list₁) (keys_of list₁) store₁
-    h' = rw es at h
-
+  module _ (list₁ : List Entry) (store₁ : List ℕ) (h : Raised list store (full_top room store left.bytes) (records_from span list store page at) list₁ store₁) where
     abbrev kept : List Record
-    kept = kept_records w (rows_of list) (keys_of list) store page at
+    kept = kept_records w list store page at
+
+    raised : Raised list store (full_top room store left.bytes) kept list₁ store₁
+    raised = rw es at h
 
     abbrev inserts : List Entry
     inserts = inserts_of 0 kept
 
-    raised : Raised (rows_of list) (keys_of list) store (full_top room store left.bytes) kept (rows_of list₁) (keys_of list₁) store₁
-    raised = what_is_kept_is_raised w (rows_of list) (keys_of list) store page at left room k n req.1 (rows_of list₁) (keys_of list₁) store₁ h'
-
-    zero_start : left.bytes - total kept ≡ 0
-    zero_start = places_from_the_start w (rows_of list) (keys_of list) store page at left room k
-
     list_is : list₁ ≡ under list room inserts
-    list_is =
-        rows_and_keys_tell list₁ (under list room inserts) (raised.rows_are ∙ rw zero_start (sym (map_under row_of list room inserts)))
-        (raised.keys_are ∙ rw zero_start (sym (map_under (λ (e : Entry). e.key) list room inserts)))
+    list_is = raised.list_is ∙ rw (places_from_the_start w list store page at left room k)
 
     many : length inserts ≡ left.count
-    many = sym (length-map inserts row_of) ∙ rows_many 0 kept ∙ sym k.left_counted
+    many = inserts_many 0 kept ∙ sym k.left_counted
 
     few : length inserts ≤ room
-    few = omega (arith, many, as_many_as_have_room w (rows_of list) (keys_of list) store page at left room k)
+    few = omega (arith, many, as_many_as_have_room w list store page at left room k)
 
     as_long : length list₁ ≡ length list
-    as_long = ap length list_is ∙ length_under list room inserts few the_room_is_there
+    as_long = ap length list_is ∙ length_under list room inserts few k.room_in
 
     pub so_many_can_be_settled : (left.count ≤ room) × (room ≤ length list₁)
-    so_many_can_be_settled = (omega (arith, few, many), omega (arith, as_long, the_room_is_there))
+    so_many_can_be_settled = (omega (arith, few, many), omega (arith, as_long, k.room_in))
 
     pub its_store_can_be_settled : Spare store₁ left.bytes w.filled
-    its_store_can_be_settled = the_store_can_be_settled w (rows_of list) (keys_of list) store page at left room k n req.1 (rows_of list₁) (keys_of list₁) store₁ h'
+    its_store_can_be_settled = the_store_can_be_settled w list store page at left room k list₁ store₁ raised
 
     pub it_is_kept : (list₂ : List Entry) (store₂ : List ℕ) → list₂ ≡ settled blank (take room list₁) left.count ++ drop room list₁ → store₂ ≡ settled 0 store₁ left.bytes
-        → (list₂ ≡ kept_list w (rows_of list) (keys_of list) store page at (length list)) × (store₂ ≡ values kept ++ zeros (length store - total kept))
-    it_is_kept list₂ store₂ z s = (
-      z ∙ ap (λ (l : List Entry). settled blank (take room l) left.count ++ drop room l) list_is ∙ ap (λ (c : ℕ). settled blank (take room (under list room inserts)) c ++ drop room (under list room inserts)) (sym many)
-          ∙ down_to_the_start list inserts room few the_room_is_there blank w.used k.used_room req.2
-          ∙ ap (λ (m : ℕ). inserts ++ replicate (length list - m) blank) (many ∙ k.left_counted),
-      the_settled_store w (rows_of list) (keys_of list) store page at left room k n req.1 (rows_of list₁) (keys_of list₁) store₁ h' store₂ s,
-    )
+        → KeptAs w list store page at list₂ store₂
+    it_is_kept list₂ store₂ z s = record {
+      list_is =
+          z ∙ ap (λ (l : List Entry). settled blank (take room l) left.count ++ drop room l) list_is ∙ ap (λ (c : ℕ). settled blank (take room (under list room inserts)) c ++ drop room (under list room inserts)) (sym many)
+          ∙ down_to_the_start list inserts room few k.room_in blank w.used k.used_room req.unused
+          ∙ ap (λ (m : ℕ). inserts ++ replicate (length list - m) blank) (many ∙ k.left_counted);
+      store_is = the_settled_store w list store page at left room k list₁ store₁ raised store₂ s;
+    }

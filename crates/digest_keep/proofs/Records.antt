@@ -5,17 +5,17 @@ use mathlib.Core.List.{List}
 use Prim.Native.Nat.{ℕ, ◌+◌, ◌-◌, ◌≤◌, ◌<◌}
 use native.Mathlib.Omega.{arith}
 use lib.Dec.{eqb}
-use lib.ListN.{length, get_or, take, drop, length-drop}
+use lib.ListN.{length, take, drop, length-drop}
 use lib.Seq.{length-take-le}
 use borrow.Author.Tests.{eq-eqb, ne_eqb}
 use Rattle.leaf_node.specs.Record.{Record}
 use Rattle.leaf_node.specs.Page.{count, start, length_at, flag_at, key_at, value_at, record_at}
 use Rattle.leaf_node.specs.Build.{put}
+use Rattle.leaf_node.specs.Steps.{Counted}
 use Rattle.leaf_node.specs.declared.Cell.{Cell}
 use Rattle.leaf_work.specs.declared.Entry.{Entry}
 use Rattle.leaf_work.specs.Tests.{bit}
 use Rattle.leaf_work.specs.Lent.{insert_at}
-use Rattle.leaf_work.specs.Flat.{row_of}
 use Rattle.leaf_write.specs.Filling.{insert_record, InsertIn}
 use Rattle.leaf_move.specs.Moving.{under}
 use Rattle.leaf_move.proofs.Under.{put_under}
@@ -40,10 +40,6 @@ module _ (store : List ℕ) (top : Top) (value : List ℕ) (room : RoomFor (leng
 
 -- ---- its entry
 
-pub its_entry_is_listed : (next : Top) (end : ℕ) (key : List ℕ) (flag : Bool) (b : ℕ) → b ≡ bit flag → (x : Entry) → x ≡ insert_at next.to end key b
-    → ◌≡◌ {A = Lifted} (record { top = next; entry = x }) (record { top = next; entry = insert_at next.to end key (bit flag) })
-its_entry_is_listed next end key flag b e x q = rw (q, e)
-
 module _ (top next : Top) (r : Record) (m : ℕ) (l : length r.value ≡ m) (e : next ≡ lower_by top 1 m) where
   lowered : next ≡ lower_by top 1 (length r.value)
   lowered = e ∙ ap (lower_by top 1) (sym l)
@@ -57,7 +53,10 @@ a_copied_record_is_lifted key value flag top next e = the_record_is_lifted top n
 
 -- ---- a record of the base
 
-module _ (page : List ℕ) (i : ℕ) (h : RecordThere page i) (cell : Cell) (first : cell.offset ≡ start page i) (size : cell.len ≡ length_at page i) (flag : cell.flag ≡ flag_at page i) where
+pub a_counted_record_is_there : (page : List ℕ) (n i : ℕ) → Counted page n → i < n → RecordThere page i
+a_counted_record_is_there page n i c h = record { there = omega (arith, h, c.counted); laid = rw c.counted at (c.laid (omega (arith, h))) }
+
+module _ (page : List ℕ) (i : ℕ) (cell : Cell) (first : cell.offset ≡ start page i) (size : cell.len ≡ length_at page i) (flag : cell.flag ≡ flag_at page i) where
   value_is : take (cell.offset + cell.len - cell.offset) (drop cell.offset page) ≡ (record_at page i).value
   unfolding record_at value_at
   value_is = let v : cell.offset + cell.len - cell.offset ≡ length_at page i = omega arith in rw (v, first)
@@ -79,35 +78,35 @@ module _ (page : List ℕ) (i : ℕ) (h : RecordThere page i) (cell : Cell) (fir
 
 -- ---- an insert
 
-module _ (store : List ℕ) (e : Entry) (top : Top) (below : InsertIn (row_of e) top.at) (room : RoomFor (length store) top (length (insert_record store (row_of e) e.key).value)) where
-  value_long : length (insert_record store (row_of e) e.key).value ≡ e.to - e.from
+module _ (store : List ℕ) (e : Entry) (top : Top) (below : InsertIn e top.at) (room : RoomFor (length store) top (length (insert_record store e).value)) where
+  value_long : length (insert_record store e).value ≡ e.to - e.from
   unfolding insert_record
   value_long = length-take-le (e.to - e.from) (drop e.from store) (rw (length-drop e.from store) (omega (arith, below.order, below.there, room.store_in)))
 
-  pub an_insert_has_room : (0 < top.row) × (e.to - e.from ≤ top.to) × (e.to - e.from ≤ top.at)
-  an_insert_has_room = (room.row, omega (arith, room.place, value_long), omega (arith, room.fits, value_long))
+  pub an_insert_has_room : (0 < top.entry) × (e.to - e.from ≤ top.to) × (e.to - e.from ≤ top.at)
+  an_insert_has_room = (room.entry, omega (arith, room.place, value_long), omega (arith, room.fits, value_long))
 
   pub an_insert_moves_within_the_store : (e.from ≤ e.to) × (e.to ≤ top.at) × (top.at ≤ length store)
   an_insert_moves_within_the_store = (below.order, below.there, room.store_in)
 
   pub an_insert_is_lifted : (next : Top) → next ≡ lower_by top 1 (e.to - e.from) → (x : Lifted) (store' : List ℕ) → x ≡ record { top = next; entry = insert_at next.to top.to e.key (bit (not (eqb e.flag 0))) }
       → store' ≡ under store top.at (take (e.to - e.from) (drop e.from store))
-      → (x ≡ lifted_of top (insert_record store (row_of e) e.key)) × (store' ≡ under store top.at (insert_record store (row_of e) e.key).value)
+      → (x ≡ lifted_of top (insert_record store e)) × (store' ≡ under store top.at (insert_record store e).value)
   unfolding insert_record
-  an_insert_is_lifted next n x store' f g = (the_record_is_lifted top next (insert_record store (row_of e) e.key) (e.to - e.from) value_long n x f, g)
+  an_insert_is_lifted next n x store' f g = (the_record_is_lifted top next (insert_record store e) (e.to - e.from) value_long n x f, g)
 
 -- ---- an entry's last record but i
 
 module _ (store page : List ℕ) (e : Entry) (i : ℕ) (top : Top) (h : LastThere store page e i top) where
   module _ (k : e.kind ≡ 1) where
-    is_the_insert : last_record store page e i ≡ insert_record store (row_of e) e.key
+    is_the_insert : last_record store page e i ≡ insert_record store e
     unfolding last_record
     is_the_insert = rw (eq-eqb e.kind 1 k)
 
-    pub the_insert_can_be_lifted : (InsertIn (row_of e) top.at) × (RoomFor (length store) top (length (insert_record store (row_of e) e.key).value))
+    pub the_insert_can_be_lifted : (InsertIn e top.at) × (RoomFor (length store) top (length (insert_record store e).value))
     the_insert_can_be_lifted = (h.insert k, rw is_the_insert at h.room)
 
-    pub the_insert_is_the_last : (x : Lifted) (store' : List ℕ) → (x ≡ lifted_of top (insert_record store (row_of e) e.key)) × (store' ≡ under store top.at (insert_record store (row_of e) e.key).value)
+    pub the_insert_is_the_last : (x : Lifted) (store' : List ℕ) → (x ≡ lifted_of top (insert_record store e)) × (store' ≡ under store top.at (insert_record store e).value)
         → (x ≡ lifted_of top (last_record store page e i)) × (store' ≡ under store top.at (last_record store page e i).value)
     the_insert_is_the_last x store' f = rw is_the_insert f
 
@@ -119,8 +118,8 @@ module _ (store page : List ℕ) (e : Entry) (i : ℕ) (top : Top) (h : LastTher
     pub a_chunk_has_a_last : (1 ≤ e.to) × (i ≤ e.to - 1)
     a_chunk_has_a_last = (omega (arith, h.within n), omega (arith, h.within n))
 
-    pub the_chunks_last_can_be_lifted : (RecordThere page (e.to - 1 - i)) × (RoomFor (length store) top (length (record_at page (e.to - 1 - i)).value))
-    the_chunks_last_can_be_lifted = (h.chunk n, rw is_a_base_record at h.room)
+    pub the_chunks_last_can_be_lifted : (n : ℕ) → n ≡ count page → (e.to - 1 - i < n) × (RoomFor (length store) top (length (record_at page (e.to - 1 - i)).value))
+    the_chunks_last_can_be_lifted m c = (omega (arith, (h.chunk n).there, c), rw is_a_base_record at h.room)
 
     pub the_chunks_last_is_the_last : (x : Lifted) (store' : List ℕ) → (x ≡ lifted_of top (record_at page (e.to - 1 - i))) × (store' ≡ under store top.at (record_at page (e.to - 1 - i)).value)
         → (x ≡ lifted_of top (last_record store page e i)) × (store' ≡ under store top.at (last_record store page e i).value)

@@ -1,20 +1,18 @@
 -- One record raised, the parts of what is kept, and what raising them requires.
-use Rattle.std.specs.Prelude.{◌≡◌, cond, List, ℕ, ◌+◌, ◌-◌, ◌≤◌, ◌<◌, ltb, length}
+use Rattle.std.specs.Prelude.{◌≡◌, cond, List, ℕ, ◌+◌, ◌-◌, ◌≤◌, ◌<◌, ltb, min, length}
 use Rattle.leaf_node.specs.Record.{Record, total}
 use Rattle.leaf_node.specs.Page.{record_at}
 use Rattle.leaf_work.specs.declared.Entry.{Entry}
 use Rattle.leaf_work.specs.Tests.{bit}
 use Rattle.leaf_work.specs.Lent.{an_insert, insert_at, chunk_of}
-use Rattle.leaf_work.specs.Flat.{row_of, rows_of, keys_of}
 use Rattle.leaf_cut.specs.declared.Span.{Span}
 use Rattle.leaf_cut.specs.declared.Cursor.{Cursor}
-use Rattle.leaf_cut.specs.Records.{records_from, entry_records}
+use Rattle.leaf_cut.specs.Records.{entry_records}
 use Rattle.leaf_write.specs.Filling.{insert_record, InsertIn}
 use Rattle.leaf_raise.specs.declared.Top.{Top}
 use Rattle.leaf_raise.specs.Raising.{lower_by, Room, Raised, RecordThere, EntryBelow}
-use Rattle.leaf_merge.specs.Lifting.{skip_at, Raises}
+use Rattle.leaf_merge.specs.Lifting.{skip_at}
 use Rattle.leaf_move.specs.Moving.{under}
-use Rattle.leaf_passed.specs.Behind.{lesser_of}
 use Rattle.digest_keep.specs.declared.Lifted.{Lifted}
 
 -- ---- one record
@@ -29,17 +27,17 @@ LiftedTo store top r l store' = (l ≡ lifted_of top r) × (store' ≡ under sto
 
 -- a value of so many bytes has room below the top, in a store of so many
 pub record RoomFor (bytes : ℕ) (top : Top) (value : ℕ) : Type 0 where
-  pub row : 0 < top.row
+  pub entry : 0 < top.entry
   pub place : value ≤ top.to
   pub fits : value ≤ top.at
   pub store_in : top.at ≤ bytes
 
 -- an entry's last record but i
 unfoldable pub last_record : List ℕ → List ℕ → Entry → ℕ → Record
-last_record store page e i = cond (an_insert e) (insert_record store (row_of e) e.key) (record_at page (e.to - 1 - i))
+last_record store page e i = cond (an_insert e) (insert_record store e) (record_at page (e.to - 1 - i))
 
 pub record LastThere (store page : List ℕ) (e : Entry) (i : ℕ) (top : Top) : Type 0 where
-  pub insert : e.kind ≡ 1 → InsertIn (row_of e) top.at
+  pub insert : e.kind ≡ 1 → InsertIn e top.at
   pub chunk : (e.kind ≡ 1 → ⊥) → RecordThere page (e.to - 1 - i)
   pub within : (e.kind ≡ 1 → ⊥) → i < e.to
   pub room : RoomFor (length store) top (length (last_record store page e i).value)
@@ -47,20 +45,16 @@ pub record LastThere (store page : List ℕ) (e : Entry) (i : ℕ) (top : Top) :
 -- ---- one entry
 
 abbrev pub part_records : List ℕ → List ℕ → Entry → List Record
-part_records store page e = entry_records store page (row_of e) e.key 0
+part_records store page e = entry_records store page e 0
 
--- records raised in list and store: leaf_raise's `Raised` of the list's rows and keys
-abbrev pub RaisedIn : List Entry → List ℕ → Top → List Record → List Entry → List ℕ → Type 0
-RaisedIn list store top rs list' store' = Raised (rows_of list) (keys_of list) store top rs (rows_of list') (keys_of list') store'
-
--- and the top below them
+-- its records raised, and the top below them
 abbrev pub RaisedTo : List Entry → List ℕ → Top → List Record → Top → List Entry → List ℕ → Type 0
-RaisedTo list store top rs r list' store' = RaisedIn list store top rs list' store' × (r ≡ lower_by top (length rs) (total rs))
+RaisedTo list store top rs r list' store' = Raised list store top rs list' store' × (r ≡ lower_by top (length rs) (total rs))
 
 -- an entry whose records can be raised
 pub record Raisable (list : List Entry) (store page : List ℕ) (e : Entry) (top : Top) : Type 0 where
-  pub below : EntryBelow page (row_of e) 0 top
-  pub room : Room (rows_of list) (keys_of list) store top (part_records store page e)
+  pub below : EntryBelow page e 0 top
+  pub room : Room list store top (part_records store page e)
 
 -- ---- the parts of what is kept
 
@@ -68,22 +62,15 @@ pub record Raisable (list : List Entry) (store page : List ℕ) (e : Entry) (top
 abbrev pub place_before : Span → Cursor → ℕ → Cursor
 place_before s at i = record { entry = s.used - i; skip = skip_at at (s.used - i) }
 
--- what a cursor stands before, by its entry, which was split there; the base's rest is a chunk
-unfoldable pub part_of : Entry → Span → Cursor → Entry
-part_of e s at = cond (ltb at.entry s.used) e (chunk_of (s.low + at.skip) s.n 0)
+-- what a cursor stands before, by its entry, which was split there; the base's rest, up to its n records, is a chunk
+unfoldable pub part_of : Entry → ℕ → Span → Cursor → Entry
+part_of e n s at = cond (ltb at.entry s.used) e (chunk_of (s.low + at.skip) n 0)
 
-pub record RestThere (s : Span) (at : Cursor) : Type 0 where
-  pub rest : s.used ≤ at.entry → s.low + at.skip ≤ s.n
-
--- the pending records from a cursor on
-abbrev pub records_on : List Entry → List ℕ → List ℕ → Span → Cursor → List Record
-records_on list store page s at = records_from s (rows_of list) (keys_of list) store page at
-
-abbrev pub RaisesIn : List Entry → List ℕ → List ℕ → Span → Cursor → ℕ → ℕ → Type 0
-RaisesIn list store page s at bytes room = Raises (rows_of list) (keys_of list) store page s at bytes room
+pub record RestThere (n : ℕ) (s : Span) (at : Cursor) : Type 0 where
+  pub rest : s.used ≤ at.entry → s.low + at.skip ≤ n
 
 -- ---- room
 
 -- the entry to which kept records are raised: beside the used ones, or the list's end
 abbrev pub room_by : ℕ → ℕ → ℕ → ℕ
-room_by used kept entries = lesser_of (used + kept) entries
+room_by used kept entries = min (used + kept) entries

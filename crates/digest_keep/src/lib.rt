@@ -7,27 +7,26 @@
 // covers what is still to be read.
 #![tactic(auto)]
 
-ghost use Rattle.std.specs.Prelude.{◌≡◌, ◌++◌, ◌+◌, ◌-◌, ◌≤◌, length, take, drop};
+ghost use Rattle.std.specs.Prelude.{◌≡◌, ◌++◌, ◌+◌, ◌-◌, ◌≤◌, ◌<◌, length, take, drop};
 ghost use Rattle.leaf_node.specs.Page.{record_at};
 ghost use Rattle.leaf_work.specs.Tests.{bit};
 ghost use Rattle.leaf_work.specs.Lent.{blank, insert_at};
-ghost use Rattle.leaf_work.specs.Flat.{row_of};
+ghost use Rattle.leaf_cut.specs.Records.{records_from};
 ghost use Rattle.leaf_write.specs.Filling.{insert_record, InsertIn};
-ghost use Rattle.leaf_move.specs.Moving.{lowered, settled};
-ghost use Rattle.leaf_raise.specs.Raising.{RecordThere};
-ghost use Rattle.leaf_merge.specs.Lifting.{full_top};
-ghost use Rattle.digest_keep.specs.Lifting.{LiftedTo, last_record, RoomFor, LastThere, part_records, RaisedIn, RaisedTo, Raisable, place_before, part_of, RestThere, records_on, RaisesIn, room_by};
-ghost use Rattle.digest_keep.specs.Keeping.{KeepsIn, KeptIn};
+ghost use Rattle.leaf_move.specs.Moving.{settled};
+ghost use Rattle.leaf_raise.specs.Raising.{Raised};
+ghost use Rattle.leaf_merge.specs.Keeping.{KeptAs};
+ghost use Rattle.leaf_merge.specs.Lifting.{full_top, Raises};
+ghost use Rattle.digest_keep.specs.Lifting.{LiftedTo, last_record, RoomFor, LastThere, part_records, RaisedTo, Raisable, place_before, part_of, RestThere, room_by};
+ghost use Rattle.digest_keep.specs.Keeping.{KeepsIn};
 
 use leaf_cut::{Cursor, Gauge, Span, span_of};
-use leaf_entries::{chunk_entry, drain, insert, insert_entry, read, split};
+use leaf_entries::{chunk_entry, drain, insert, insert_entry, records_in_entry, split};
 use leaf_merge::skip_at;
 use leaf_move::{move_up, settle_bytes};
-use leaf_node::{cell_at, copy_in};
-use leaf_passed::{lesser, records_in_entry};
+use leaf_node::{LeafNode, copy_in};
 use leaf_raise::{Top, lower};
 use leaf_work::{Entry, Work};
-use leaf_write::base_key;
 
 // ---- one record: its value in the store, and the entry that lists it
 
@@ -38,23 +37,14 @@ struct Lifted {
     entry: Entry,
 }
 
-// A flag as an entry has it.
-fn flag_bit(flag: bool) -> u8
-    ensures { result ≡ bit flag }
-{
-    if flag {
-        return 1;
-    }
-    0
-}
-
 // A record below `next`, whose value ends at `end` in the store that is made.
 fn listed_below(key: &[u8; 32], flag: bool, next: Top, end: usize) -> Lifted
     ensures { result ≡ record { top = next; entry = insert_at next.to end key.now (bit flag) } }
 {
+    let flag = u8::from(flag);
     Lifted {
         top: next,
-        entry: insert_entry(next.to, end, key, flag_bit(flag)),
+        entry: insert_entry(next.to, end, key, flag),
     }
 }
 
@@ -69,57 +59,49 @@ fn lift_record(key: &[u8; 32], value: &[u8], flag: bool, store: &mut [u8], top: 
 }
 
 // Raises record i of the base.
-fn lift_base(page: &[u8], i: usize, store: &mut [u8], top: Top) -> Lifted
-    requires { (RecordThere page.now i) × (RoomFor (length store.old) top (length (record_at page.now i).value)) }
-    ensures { LiftedTo store.old top (record_at page.now i) result store.new }
+fn lift_base(node: LeafNode, i: usize, store: &mut [u8], top: Top) -> Lifted
+    requires { (i < node.n) × (RoomFor (length store.old) top (length (record_at node.page.now i).value)) }
+    ensures { LiftedTo store.old top (record_at node.entry.page.now i) result store.new }
 {
-    let cell = cell_at(page, i);
-    let key = base_key(page, i);
+    let cell = node.cell(i);
     let from = cell.offset;
     let end = from + cell.len;
-    lift_record(&key, &page[from..end], cell.flag, store, top)
+    lift_record(node.key(i), &node.page[from..end], cell.flag, store, top)
 }
 
 // Raises an insert, whose value is moved up within the store.
 fn lift_insert(entry: Entry, store: &mut [u8], top: Top) -> Lifted
-    requires { (InsertIn (row_of entry) top.at) × (RoomFor (length store.old) top (length (insert_record store.old (row_of entry) entry.key).value)) }
-    ensures { LiftedTo store.old top (insert_record store.old (row_of entry) entry.key) result store.new }
+    requires { (InsertIn entry top.at) × (RoomFor (length store.old) top (length (insert_record store.old entry).value)) }
+    ensures { LiftedTo store.old top (insert_record store.old entry) result store.new }
 {
-    let from = entry.from;
-    let to = entry.to;
-    let next = lower(top, to - from);
-    move_up(store, from, to, top.at);
-    let key = entry.key;
-    listed_below(&key, entry.flag != 0, next, top.to)
+    let next = lower(top, entry.to - entry.from);
+    move_up(store, entry.from, entry.to, top.at);
+    listed_below(&entry.key, entry.flag != 0, next, top.to)
 }
 
 // Raises an entry's last record but i.
-fn lift_last(part: Entry, page: &[u8], i: usize, store: &mut [u8], top: Top) -> Lifted
-    requires { LastThere store.old page.now part i top }
-    ensures { LiftedTo store.old top (last_record store.old page.now part i) result store.new }
+fn lift_last(part: Entry, node: LeafNode, i: usize, store: &mut [u8], top: Top) -> Lifted
+    requires { LastThere store.old node.page.now part i top }
+    ensures { LiftedTo store.old top (last_record store.old node.entry.page.now part i) result store.new }
 {
-    if part.kind == 1 {
+    if part.is_insert() {
         return lift_insert(part, store, top);
     }
-    lift_base(page, part.to - 1 - i, store, top)
+    lift_base(node, part.to - 1 - i, store, top)
 }
 
 // ---- one entry
 
 // Raises an entry's records, the last one first.
-fn raise_entry(part: Entry, page: &[u8], list: &mut [Entry], store: &mut [u8], start: Top) -> Top
-    requires { Raisable list.old store.old page.now part start }
-    ensures { RaisedTo list.old store.old start (part_records store.old page.now part) result list.new store.new }
+fn raise_entry(part: Entry, node: LeafNode, list: &mut [Entry], store: &mut [u8], start: Top) -> Top
+    requires { Raisable list.old store.old node.page.now part start }
+    ensures { RaisedTo list.old store.old start (part_records store.old node.entry.page.now part) result list.new store.new }
 {
-    let records = records_in_entry(part);
     let mut top = start;
-    let mut i = 0;
-    while i < records {
-        let lifted = lift_last(part, page, i, store, top);
-        let next = lifted.top;
-        insert(list, next.row, lifted.entry);
-        top = next;
-        i += 1;
+    for i in 0..records_in_entry(&part) {
+        let lifted = lift_last(part, node, i, store, top);
+        top = lifted.top;
+        insert(list, top.entry, lifted.entry);
     }
     top
 }
@@ -128,21 +110,13 @@ fn raise_entry(part: Entry, page: &[u8], list: &mut [Entry], store: &mut [u8], s
 
 // Nothing is raised yet of records whose values have `bytes` bytes.
 fn full_top(room: usize, bytes: usize, end: usize) -> Top
-    ensures { result ≡ record { row = room; to = bytes; at = end } }
+    ensures { result ≡ record { entry = room; to = bytes; at = end } }
 {
     Top {
-        row: room,
+        entry: room,
         to: bytes,
         at: end,
     }
-}
-
-// How many parts there are from the cursor on: its entry and those behind it, and the base's rest.
-fn parts_from(span: Span, at: Cursor) -> usize
-    requires { (at.entry ≤ span.used) × (span.used ≤ 65536) }
-    ensures { result ≡ span.used + 1 - at.entry }
-{
-    span.used + 1 - at.entry
 }
 
 // The cursor of the last part but i: the base's rest, then the entries from the last one on.
@@ -152,77 +126,53 @@ fn place_before(span: Span, at: Cursor, i: usize) -> Cursor
 {
     let entry = span.used - i;
     Cursor {
-        entry: entry,
+        entry,
         skip: skip_at(at, entry),
     }
 }
 
-// What the cursor stands before: its entry, which was split there, or the base's rest as a chunk.
-fn part_of(entry: Entry, span: Span, place: Cursor) -> Entry
-    requires { RestThere span place }
-    ensures { result ≡ part_of entry span place }
+// What the cursor stands before: its entry, which was split there, or the base's rest, of n records, as a chunk.
+fn part_of(entry: Entry, n: usize, span: Span, place: Cursor) -> Entry
+    requires { RestThere n span place }
+    ensures { result ≡ part_of entry n span place }
 {
     if place.entry < span.used {
         return entry;
     }
-    chunk_entry(span.low + place.skip, span.n, 0)
+    chunk_entry(span.low + place.skip, n, 0)
 }
 
 // Raises all records from a cursor on, whose values have `bytes` bytes: the base's rest, then entry by entry, the last one first.
 fn raise(
     list: &mut [Entry],
     store: &mut [u8],
-    page: &[u8],
+    node: LeafNode,
     span: Span,
     at: Cursor,
     bytes: usize,
     room: usize,
 )
-    requires { RaisesIn list.old store.old page.now span at bytes room }
-    ensures { RaisedIn list.old store.old (full_top room store.old bytes) (records_on list.old store.old page.now span at) list.new store.new }
+    requires { Raises list.old store.old node.page.now span at bytes room }
+    ensures { Raised list.old store.old (full_top room store.old bytes) (records_from span list.old store.old node.entry.page.now at) list.new store.new }
 {
-    let full = full_top(room, bytes, store.len());
-    let parts = parts_from(span, at);
-    let mut top = full;
-    let mut i = 0;
-    while i < parts {
+    let mut top = full_top(room, bytes, store.len());
+    for i in 0..span.used + 1 - at.entry {
         let place = place_before(span, at, i);
         let entry = split(list, place.entry, place.skip);
-        let part = part_of(entry, span, place);
-        top = raise_entry(part, page, list, store, top);
-        i += 1;
+        let part = part_of(entry, node.n, span, place);
+        top = raise_entry(part, node, list, store, top);
     }
 }
 
 // ---- down to the start
-
-fn gap_of(entries: usize, count: usize) -> usize
-    requires { count ≤ entries }
-    ensures { result ≡ entries - count }
-{
-    entries - count
-}
-
-// Moves the last `count` entries to the start.
-fn lower_entries(list: &mut [Entry], count: usize)
-    requires { count ≤ length list.old }
-    ensures { list.new ≡ lowered list.old count }
-{
-    let from = gap_of(list.len(), count);
-    let mut i = 0;
-    while i < count {
-        let entry = read(list, from + i);
-        insert(list, i, entry);
-        i += 1;
-    }
-}
 
 // The last `count` entries at the start, and unused ones behind them.
 fn settle_entries(list: &mut [Entry], count: usize)
     requires { count ≤ length list.old }
     ensures { list.new ≡ settled blank list.old count }
 {
-    lower_entries(list, count);
+    let all = list.len();
+    list.copy_within(all - count..all, 0);
     drain(list, count);
 }
 
@@ -238,28 +188,26 @@ fn settle_first(list: &mut [Entry], room: usize, count: usize)
 
 // To which entry the kept records are raised: there they stand beside the used ones, or behind the list's end there is nothing.
 fn room_by(used: usize, kept: usize, entries: usize) -> usize
-    requires { (used ≤ 65536) × (kept ≤ 98304) }
     ensures { result ≡ room_by used kept entries }
 {
-    lesser(used + kept, entries)
+    used.saturating_add(kept).min(entries)
 }
 
-// List and store after a digest: the records from the cursor on as inserts, then zeros. The base has n records.
+// List and store after a digest: the records from the cursor on as inserts, then zeros.
 pub fn prepare_merge_ops(
-    work: Work,
+    work: &Work,
     list: &mut [Entry],
     store: &mut [u8],
-    page: &[u8],
-    n: usize,
+    node: LeafNode,
     at: Cursor,
     left: Gauge,
 )
-    requires { KeepsIn work list.old store.old page.now at n left }
-    ensures { KeptIn work list.old store.old page.now at list.new store.new }
+    requires { KeepsIn work.now list.old store.old node.page.now at left }
+    ensures { KeptAs work.now list.old store.old node.entry.page.now at list.new store.new }
 {
-    let span = span_of(work, n);
+    let span = span_of(work);
     let room = room_by(work.used, left.count, list.len());
-    raise(list, store, page, span, at, left.bytes, room);
+    raise(list, store, node, span, at, left.bytes, room);
     settle_first(list, room, left.count);
     settle_bytes(store, left.bytes, work.filled);
 }

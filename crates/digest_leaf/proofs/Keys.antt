@@ -1,53 +1,42 @@
 -- The key of the first record from a cursor on, by the cursor's entry. Assumes nothing.
-use mathlib.Core.Path.{◌≡◌, refl}
+use mathlib.Core.Path.{◌≡◌}
+use mathlib.Core.Option.{none, some}
 use mathlib.Core.List.{List}
 use Prim.Native.Nat.{ℕ, ◌+◌, ◌≤◌, ◌<◌}
 use native.Mathlib.Omega.{arith}
+use lib.ListN.{get_or}
 use borrow.Author.Tests.{lt-ltb, le-ltb, eq-eqb, ne_eqb}
-use mir.Syntax.{w64}
-use mir.Val.{Fits}
-use lib.ListN.{length}
-use Rattle.leaf_node.specs.Page.{pointer, key_at}
-use Rattle.leaf_model.specs.Work.{zero_key}
+use Rattle.leaf_node.specs.Page.{count, key_at}
 use Rattle.leaf_work.specs.declared.Entry.{Entry}
+use Rattle.leaf_work.specs.Lent.{blank}
 use Rattle.leaf_cut.specs.declared.Span.{Span}
 use Rattle.leaf_cut.specs.declared.Cursor.{Cursor}
-use Rattle.digest_leaf.specs.Keys.{first_key, key_behind, KeyAsked}
+use Rattle.leaf_cut.specs.Steps.{Spread, CursorIn}
+use Rattle.leaf_cut.proofs.Walking.{chunk_many}
+use Rattle.leaf_write.specs.Filling.{key_from}
 
-module _ (page : List ℕ) (s : Span) (e : Entry) (at : Cursor) (left : ℕ) where
-  pub no_key_is_behind : left ≡ 0 → zero_key ≡ key_behind s e page at left
-  unfolding key_behind
-  no_key_is_behind z = rw (eq-eqb left 0 z)
+module _ (list : List Entry) (page : List ℕ) (s : Span) (at : Cursor) where
+  module _ (l : at.entry < s.used) (e : Entry) (q : e ≡ get_or list at.entry blank) where
+    pub an_inserts_key_is_first : e.kind ≡ 1 → some e.key ≡ key_from s list page at
+    unfolding key_from
+    an_inserts_key_is_first k = rw (lt-ltb at.entry s.used l, ← q, eq-eqb e.kind 1 k)
 
-  module _ (m : left ≡ 0 → ⊥) where
-    pub a_key_is_behind : key_behind s e page at left ≡ first_key s e page at
-    unfolding key_behind
-    a_key_is_behind = rw (ne_eqb left 0 m)
+    module _ (n : e.kind ≡ 1 → ⊥) where
+      pub a_chunk_has_a_next : Spread list page s → CursorIn list page s at → e.from + at.skip < count page
+      a_chunk_has_a_next spread c =
+          let h = rw (← q) at (spread.entries at.entry l) in
+          let k = rw (← q) at (c.skip_in l) in
+          omega (arith, (h.chunk n).1, spread.rest.low_in, k, chunk_many page e s h spread.rest n)
 
-    module _ (h : KeyAsked page s e at left) where
-      module _ (l : s.used ≤ at.entry) where
-        pub the_rests_index_fits : Fits w64 (s.low + at.skip)
-        the_rests_index_fits = record { fits = omega (arith, h.rest m l, h.short) }
+      pub a_chunks_key_is_first : (k : List ℕ) → k ≡ key_at page (e.from + at.skip) → some k ≡ key_from s list page at
+      unfolding key_from
+      a_chunks_key_is_first k h = rw (lt-ltb at.entry s.used l, ← q, ne_eqb e.kind 1 n, h)
 
-        pub the_rests_key_is_there : pointer (s.low + at.skip + 1) ≤ length page
-        the_rests_key_is_there = h.rest m l
+  module _ (l : s.used ≤ at.entry) where
+    pub the_rests_key_is_first : s.low + at.skip < count page → (k : List ℕ) → k ≡ key_at page (s.low + at.skip) → some k ≡ key_from s list page at
+    unfolding key_from
+    the_rests_key_is_first m k h = rw (le-ltb at.entry s.used l, lt-ltb (s.low + at.skip) (count page) m, h)
 
-        pub the_rests_key_is_first : (k : List ℕ) → k ≡ key_at page (s.low + at.skip) → k ≡ key_behind s e page at left
-        unfolding first_key
-        the_rests_key_is_first k q = rw (a_key_is_behind, le-ltb at.entry s.used l) q
-
-      module _ (l : at.entry < s.used) where
-        module _ (n : e.kind ≡ 1 → ⊥) where
-          pub the_chunks_index_fits : Fits w64 (e.from + at.skip)
-          the_chunks_index_fits = record { fits = omega (arith, h.chunk m l n, h.short) }
-
-          pub the_chunks_key_is_there : pointer (e.from + at.skip + 1) ≤ length page
-          the_chunks_key_is_there = h.chunk m l n
-
-          pub the_chunks_key_is_first : (k : List ℕ) → k ≡ key_at page (e.from + at.skip) → k ≡ key_behind s e page at left
-          unfolding first_key
-          the_chunks_key_is_first k q = rw (a_key_is_behind, lt-ltb at.entry s.used l, ne_eqb e.kind 1 n) q
-
-        pub the_inserts_key_is_first : e.kind ≡ 1 → e.key ≡ key_behind s e page at left
-        unfolding first_key
-        the_inserts_key_is_first q = rw (a_key_is_behind, lt-ltb at.entry s.used l, eq-eqb e.kind 1 q)
+    pub no_record_is_left : count page ≤ s.low + at.skip → none ≡ key_from s list page at
+    unfolding key_from
+    no_record_is_left m = rw (le-ltb at.entry s.used l, le-ltb (s.low + at.skip) (count page) m)

@@ -1,4 +1,4 @@
--- Laws on plain values, for the functions' proofs.
+-- The laws of one leaf off the list.
 pub mod Consuming
 pub mod Pushing
 pub mod Keys

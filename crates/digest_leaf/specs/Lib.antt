@@ -1,4 +1,2 @@
--- One leaf off the list: what its steps by value require and answer.
-pub mod Consuming
+-- One leaf off the list: what making its page requires.
 pub mod Pushing
-pub mod Keys

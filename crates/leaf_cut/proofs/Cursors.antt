@@ -4,20 +4,19 @@ use mathlib.Core.Bool.{Bool, true, false, true≢false}
 use mathlib.Core.List.{List, [], ◌∷◌, ◌++◌, append-nil, append_assoc}
 use Prim.Native.Nat.{ℕ, zero, suc, ◌+◌, ◌-◌, ◌*◌, ◌≤◌, ◌<◌}
 use native.Mathlib.Omega.{arith}
-use lib.Dec.{ltb, leb}
+use lib.Dec.{eqb, ltb, leb}
 use lib.ListN.{length, get_or, drop, length-append}
 use lib.Seq.{drop-append-le, drop-append-add}
-use mir.Syntax.{w64}
-use mir.Val.{Fits}
 use borrow.Author.Tests.{eq-eqb, ne_eqb, ltb-true, ltb-false, leb-true, leb-false}
 use Rattle.leaf_node.specs.Page.{length_at, run}
+use Rattle.leaf_work.specs.declared.Entry.{Entry}
+use Rattle.leaf_work.specs.Lent.{blank}
+use Rattle.leaf_node.specs.Steps.{Counted}
 use Rattle.leaf_node.proofs.Lengths.{length_run}
-use Rattle.leaf_cut.specs.declared.Gauge.{Gauge}
 use Rattle.leaf_cut.specs.declared.Cursor.{Cursor}
-use Rattle.leaf_cut.specs.declared.Piece.{Piece}
 use Rattle.leaf_cut.specs.declared.Ended.{Ended}
-use Rattle.leaf_cut.specs.Sizes.{cut_sizes, row_sizes, listed_sizes, piece_of, piece_sizes, piece_count, passed_by}
-use Rattle.leaf_cut.specs.Steps.{Rest, PieceIn, RowAt}
+use Rattle.leaf_cut.specs.Sizes.{cut_sizes, entry_sizes, listed_sizes, sizes_behind, count_behind, passed_by}
+use Rattle.leaf_cut.proofs.Pieces.{records_are_few}
 use Rattle.leaf_cut.proofs.Ending.{ends_before, ends_behind, ends_later}
 
 -- ---- where a leaf ends among the records of a piece, whatever comes behind it
@@ -94,19 +93,19 @@ module _ (limit target : ℕ) where
 -- ---- the records from a cursor on: those of its entry, and those behind it
 
 module _ (page : List ℕ) where
-  pub entry_split : (j used : ℕ) (rows : List (List ℕ)) (k : ℕ) (tail : List ℕ) → j < used → used ≤ length rows → k ≤ length (row_sizes page (get_or rows j []))
-      → drop (length (listed_sizes page j rows) + k) (listed_sizes page used rows ++ tail)
-      ≡ drop k (row_sizes page (get_or rows j [])) ++ drop (length (listed_sizes page (suc j) rows) + 0) (listed_sizes page used rows ++ tail)
+  pub entry_split : (j used : ℕ) (list : List Entry) (k : ℕ) (tail : List ℕ) → j < used → used ≤ length list → k ≤ length (entry_sizes page (get_or list j blank))
+      → drop (length (listed_sizes page j list) + k) (listed_sizes page used list ++ tail)
+      ≡ drop k (entry_sizes page (get_or list j blank)) ++ drop (length (listed_sizes page (suc j) list) + 0) (listed_sizes page used list ++ tail)
   unfolding listed_sizes
-  entry_split j zero rows k tail h l m = absurd (omega arith)
+  entry_split j zero list k tail h l m = absurd (omega arith)
   entry_split j (suc used) [] k tail h l m = absurd (omega arith)
   entry_split zero (suc used) (r ∷ rs) k tail h l m =
-      let x : List ℕ = row_sizes page r in
+      let x : List ℕ = entry_sizes page r in
       let e : length (x ++ []) + 0 ≡ length x + 0 = ap (λ (y : List ℕ). length y + 0) (append-nil x) in
       rw (append_assoc x (listed_sizes page used rs) tail, e, drop-append-add x (listed_sizes page used rs ++ tail) 0)
       (let z : 0 + k ≡ k = omega arith in rw z (drop-append-le k x (listed_sizes page used rs ++ tail) m))
   entry_split (suc j) (suc used) (r ∷ rs) k tail h l m =
-      let x : List ℕ = row_sizes page r in
+      let x : List ℕ = entry_sizes page r in
       let a : length (x ++ listed_sizes page j rs) + k ≡ length x + (length (listed_sizes page j rs) + k) = simp length-append (omega arith) in
       let b : length (x ++ listed_sizes page (suc j) rs) + 0 ≡ length x + (length (listed_sizes page (suc j) rs) + 0) = simp length-append (omega arith) in
       rw (
@@ -118,7 +117,7 @@ module _ (page : List ℕ) where
       )
       (entry_split j used rs k tail (omega arith) (omega arith) m)
 
-  pub one_more_entry : (j : ℕ) (rows : List (List ℕ)) → j < length rows → length (listed_sizes page (suc j) rows) ≡ length (listed_sizes page j rows) + length (row_sizes page (get_or rows j []))
+  pub one_more_entry : (j : ℕ) (list : List Entry) → j < length list → length (listed_sizes page (suc j) list) ≡ length (listed_sizes page j list) + length (entry_sizes page (get_or list j blank))
   unfolding listed_sizes
   one_more_entry j [] h = absurd (omega arith)
   one_more_entry zero (r ∷ rs) h = simp (append-nil) (omega arith)
@@ -134,54 +133,41 @@ pub some_records_are_passed : (at : Cursor) (all taken : ℕ) → (taken ≡ all
 unfolding passed_by
 some_records_are_passed at all taken n = rw (ne_eqb taken all n)
 
-pub pieces_are_counted : (page : List ℕ) (x : Piece) → length (piece_sizes page x) ≡ piece_count x
-unfolding piece_sizes piece_count
-pieces_are_counted page x = go x.insert refl
+pub records_behind_are_counted : (page : List ℕ) (entry : Entry) (skip : ℕ) → length (sizes_behind page entry skip) ≡ count_behind entry skip
+unfolding sizes_behind count_behind
+records_behind_are_counted page entry skip = go (eqb entry.kind 1) refl
   where
-    go : (b : Bool) → x.insert ≡ b → length (piece_sizes page x) ≡ piece_count x
+    go : (b : Bool) → eqb entry.kind 1 ≡ b → length (sizes_behind page entry skip) ≡ count_behind entry skip
     go true e = rw e
-    go false e = rw (e, length_run (x.to - x.from) x.from (length_at page))
+    go false e = rw (e, length_run (entry.to - (entry.from + skip)) (entry.from + skip) (length_at page))
 
-pieces_are_few : (page : List ℕ) (n : ℕ) (x : Piece) → PieceIn page n x → piece_count x ≤ 65536
-unfolding piece_count
-pieces_are_few page n x h = go x.insert refl
-  where
-    go : (b : Bool) → x.insert ≡ b → piece_count x ≤ 65536
-    go true e = rw e (omega arith)
-    go false e = rw e (omega (arith, h.chunk_in e, h.few))
+module _ (page : List ℕ) (entry : Entry) (at : Cursor) (limit target n b : ℕ) (end : Ended) (to : Cursor) where
+  module _ (e : entry.kind ≡ 1) where
+    pub an_insert_is_consumed : end ≡ cut_sizes limit target n b ((entry.to - entry.from) ∷ []) → end ≡ cut_sizes limit target n b (sizes_behind page entry at.skip)
+    unfolding sizes_behind
+    an_insert_is_consumed q = rw (eq-eqb entry.kind 1 e) q
 
-module _ (limit target : ℕ) (page : List ℕ) (n : ℕ) (row : List ℕ) (at : Cursor) (r : RowAt page n row at) (x : Piece) (e : x ≡ piece_of row at.skip) where
-  pub the_piece_of_an_entry_is_in : PieceIn page n x
-  the_piece_of_an_entry_is_in = rw e r.piece
+    pub an_insert_is_passed : to ≡ passed_by at 1 (end.count - n) → to ≡ passed_by at (count_behind entry at.skip) (end.count - n)
+    unfolding count_behind
+    an_insert_is_passed q = rw (eq-eqb entry.kind 1 e) q
 
-  pub the_piece_of_an_entry_has_an_order : x.from ≤ x.to
-  the_piece_of_an_entry_has_an_order = the_piece_of_an_entry_is_in.order
+  module _ (e : entry.kind ≡ 1 → ⊥) where
+    pub a_chunk_is_consumed : end ≡ cut_sizes limit target n b (run (entry.to - (entry.from + at.skip)) (entry.from + at.skip) (length_at page)) → end ≡ cut_sizes limit target n b (sizes_behind page entry at.skip)
+    unfolding sizes_behind
+    a_chunk_is_consumed q = rw (ne_eqb entry.kind 1 e) q
 
-  module _ (leaf : Gauge) (end : Ended) (q : end ≡ cut_sizes limit target leaf.count leaf.bytes (piece_sizes page x)) where
-    pub few_records_of_an_entry_are_taken : end.count - leaf.count ≤ 65536
-    few_records_of_an_entry_are_taken =
-        omega (
-          arith,
-          a_leaf_takes_no_more_than_there_is limit target (piece_sizes page x) leaf.count leaf.bytes end q,
-          pieces_are_counted page x,
-          pieces_are_few page n x the_piece_of_an_entry_is_in,
-        )
+    pub a_chunk_is_passed : to ≡ passed_by at (entry.to - (entry.from + at.skip)) (end.count - n) → to ≡ passed_by at (count_behind entry at.skip) (end.count - n)
+    unfolding count_behind
+    a_chunk_is_passed q = rw (ne_eqb entry.kind 1 e) q
 
-    pub the_leaf_comes_to_the_entry : end ≡ cut_sizes limit target leaf.count leaf.bytes (piece_sizes page (piece_of row at.skip))
-    the_leaf_comes_to_the_entry = q ∙ rw e
+-- what a leaf takes of some records is no more than they are
+module _ (limit target n b : ℕ) (end : Ended) where
+  pub one_record_is_taken_at_most : (v : ℕ) → end ≡ cut_sizes limit target n b (v ∷ []) → end.count - n ≤ 65536
+  one_record_is_taken_at_most v q = omega (arith, a_leaf_takes_no_more_than_there_is limit target (v ∷ []) n b end q)
 
-    pub the_entry_is_passed : (c : ℕ) (to : Cursor) → c ≡ piece_count x → to ≡ passed_by at c (end.count - leaf.count) → to ≡ passed_by at (piece_count (piece_of row at.skip)) (end.count - leaf.count)
-    the_entry_is_passed c to f p = p ∙ rw (f, e)
+  module _ (page : List ℕ) (records : ℕ) (c : Counted page records) (from to : ℕ) (h : to ≤ records) (q : end ≡ cut_sizes limit target n b (run (to - from) from (length_at page))) where
+    pub few_records_are_taken : end.count - n ≤ to - from
+    few_records_are_taken = omega (arith, a_leaf_takes_no_more_than_there_is limit target (run (to - from) from (length_at page)) n b end q, length_run (to - from) from (length_at page))
 
--- ---- the base's rest
-
-module _ (limit target : ℕ) (page : List ℕ) (n low skip : ℕ) (leaf : Gauge) (end : Ended)
-    (q : end ≡ cut_sizes limit target leaf.count leaf.bytes (piece_sizes page (record { insert = false; from = low + skip; to = n }))) where
-  pub the_leaf_comes_to_the_rest : end ≡ cut_sizes limit target leaf.count leaf.bytes (run (n - (low + skip)) (low + skip) (length_at page))
-  unfolding piece_sizes
-  the_leaf_comes_to_the_rest = q
-
-  pub few_records_of_the_rest_are_taken : Rest page n low → low + skip ≤ n → Fits w64 (skip + (end.count - leaf.count))
-  few_records_of_the_rest_are_taken r h =
-      let k = a_leaf_takes_no_more_than_there_is limit target (run (n - (low + skip)) (low + skip) (length_at page)) leaf.count leaf.bytes end the_leaf_comes_to_the_rest in
-      record { fits = omega (arith, k, length_run (n - (low + skip)) (low + skip) (length_at page), r.few) }
+    pub a_chunk_has_few_records : end.count - n ≤ 65536
+    a_chunk_has_few_records = omega (arith, few_records_are_taken, records_are_few page records c)

@@ -1,23 +1,20 @@
--- Where a leaf ends, record by record and piece by piece. Assumes nothing.
+-- Where a leaf ends, record by record. Assumes nothing.
 use mathlib.Core.Path.{◌≡◌, refl, sym, ap, ◌∙◌}
 use mathlib.Core.Bool.{Bool, true, false}
 use mathlib.Core.List.{List, [], ◌∷◌, ◌++◌, append-nil}
 use Prim.Native.Nat.{ℕ, suc, ◌+◌, ◌-◌, ◌*◌, ◌≤◌, ◌<◌}
 use native.Mathlib.Omega.{arith}
-use native.Mathlib.Decide.{dec_lt}
 use native.Mathlib.Nat.{add-zero, add_assoc}
 use native.Mathlib.Numerals.{add-one}
 use lib.Dec.{leb}
 use lib.ListN.{length}
 use borrow.Author.Tests.{leb-true, leb-false, lt-ltb, le-ltb, le-leb, lt-leb}
 use Rattle.leaf_node.specs.Page.{length_at, run, values_size}
-use Rattle.leaf_node.specs.Steps.{Laid}
-use Rattle.leaf_cut.specs.declared.Gauge.{Gauge}
+use Rattle.leaf_node.specs.Steps.{Counted}
+use Rattle.leaf_node.proofs.Lengths.{length_run}
 use Rattle.leaf_cut.specs.declared.Ended.{Ended}
-use Rattle.leaf_cut.specs.declared.Piece.{Piece}
-use Rattle.leaf_cut.specs.Sizes.{sum, cut_sizes, piece_sizes}
-use Rattle.leaf_cut.specs.Steps.{PieceIn, Leaf}
-use Rattle.leaf_cut.proofs.Pieces.{one_value_is_its_length, no_records_are_none, no_records_have_no_bytes, a_chunk_is_laid}
+use Rattle.leaf_cut.specs.Sizes.{sum, cut_sizes}
+use Rattle.leaf_cut.proofs.Pieces.{one_value_is_its_length, a_range_is_summed}
 
 module _ (limit target : ℕ) where
   -- ---- the clauses, with the tests as orders
@@ -42,10 +39,10 @@ module _ (limit target : ℕ) where
     unfolding cut_sizes run
     the_chunk_is_taken h = let z : to - i ≡ 0 = omega arith in rw (inv, z)
 
-    module _ (records : ℕ) (l : Laid p records) (there : to ≤ records) (h : i < to) (q : v ≡ values_size p i (i + 1)) where
+    module _ (records : ℕ) (c : Counted p records) (there : to ≤ records) (h : i < to) (q : v ≡ values_size p i (i + 1)) where
       head : e ≡ cut_sizes limit target n b (v ∷ run (to - (i + 1)) (i + 1) (length_at p))
       unfolding run
-      head = let z : to - i ≡ suc (to - (i + 1)) = omega arith in inv ∙ rw (z, one_value_is_its_length p records l i v (omega arith) q, add-one i)
+      head = let z : to - i ≡ suc (to - (i + 1)) = omega arith in inv ∙ rw (z, one_value_is_its_length p records (c.laid (omega arith)) i v (omega arith) q, add-one i)
 
       pub the_leaf_ends_before : limit < 34 * (n + 1) + (b + v) → ◌≡◌ {A = Ended} (record { cut = true; count = n; bytes = b }) e
       the_leaf_ends_before k = rw (head, ends_before n b v (run (to - (i + 1)) (i + 1) (length_at p)) k)
@@ -81,26 +78,14 @@ module _ (limit target : ℕ) where
         test true e = rw (ends_behind n b v [] h (leb-true target (34 * (n + 1) + (b + v)) e), e)
         test false e = unfold cut_sizes in rw (ends_later n b v [] h (leb-false target (34 * (n + 1) + (b + v)) e), e)
 
-  -- ---- a piece
+  -- ---- a chunk that stays below the target
 
-  module _ (p : List ℕ) (x : Piece) (n b : ℕ) (r : Ended) where
-    pub an_insert_is_a_piece_of_one : x.insert ≡ true → r ≡ cut_sizes limit target n b ((x.to - x.from) ∷ []) → r ≡ cut_sizes limit target n b (piece_sizes p x)
-    unfolding piece_sizes
-    an_insert_is_a_piece_of_one e q = rw (q, e)
-
-    pub a_chunk_is_a_range : x.insert ≡ false → r ≡ cut_sizes limit target n b (run (x.to - x.from) x.from (length_at p)) → r ≡ cut_sizes limit target n b (piece_sizes p x)
-    unfolding piece_sizes
-    a_chunk_is_a_range e q = rw (q, e)
-
-    pub a_whole_piece_is_taken : (m s : ℕ) → target ≤ limit → m ≡ length (piece_sizes p x) → s ≡ sum (piece_sizes p x) → 34 * (n + m) + (b + s) < target
-        → record { cut = false; count = n + m; bytes = b + s } ≡ cut_sizes limit target n b (piece_sizes p x)
-    a_whole_piece_is_taken m s t q u h =
-        rw (q, u) (sym (ap (cut_sizes limit target n b) (sym (append-nil (piece_sizes p x))) ∙ a_piece_below_the_target_is_taken (piece_sizes p x) [] n b t (omega arith) ∙ unfold cut_sizes in refl))
-
-  -- a chunk that brings a leaf to its target has a record
-  pub a_reaching_chunk_is_laid : (p : List ℕ) (records : ℕ) (x : Piece) (leaf : Gauge) (m s : ℕ) → PieceIn p records x → Leaf limit target leaf → x.insert ≡ false
-      → m ≡ length (piece_sizes p x) → s ≡ sum (piece_sizes p x) → target ≤ 34 * (leaf.count + m) + (leaf.bytes + s) → Laid p records
-  a_reaching_chunk_is_laid p records x leaf m s h l e q u t = elim (dec_lt x.from x.to) [
-    | yes k ↦ a_chunk_is_laid p records x h e k
-    | no k ↦ absurd (omega (arith, no_records_are_none p records x h e (omega arith), no_records_have_no_bytes p records x h e (omega arith), l.below))
-  ]
+  pub a_chunk_below_the_target_is_taken : (p : List ℕ) (records : ℕ) (c : Counted p records) (from to n b v : ℕ) → from ≤ to → to ≤ records → target ≤ limit → v ≡ values_size p from to
+      → 34 * (n + (to - from)) + (b + v) < target → ◌≡◌ {A = Ended} (record { cut = false; count = n + (to - from); bytes = b + v }) (cut_sizes limit target n b (run (to - from) from (length_at p)))
+  a_chunk_below_the_target_is_taken p records c from to n b v o k t q h =
+      let xs : List ℕ = run (to - from) from (length_at p) in
+      let m : length xs ≡ to - from = length_run (to - from) from (length_at p) in
+      let s : v ≡ sum xs = q ∙ a_range_is_summed p records c from to o k in
+      let d : cut_sizes limit target n b xs ≡ record { cut = false; count = n + length xs; bytes = b + sum xs } =
+      ap (cut_sizes limit target n b) (sym (append-nil xs)) ∙ a_piece_below_the_target_is_taken xs [] n b t (omega (arith, m, s)) ∙ unfold cut_sizes in refl in
+      rw s (ap (λ (k : ℕ). record { cut = false; count = n + k; bytes = b + sum xs }) (sym m) ∙ sym d)

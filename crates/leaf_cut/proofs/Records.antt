@@ -17,17 +17,17 @@ use Rattle.leaf_node.proofs.Lengths.{body_is_pointers_and_values}
 use Rattle.leaf_node.proofs.Laying.{value_length_lem}
 use Rattle.leaf_model.specs.Cut.{Taken, take_until}
 use Rattle.leaf_work.specs.declared.Work.{Work}
+use Rattle.leaf_work.specs.declared.Entry.{Entry}
 use Rattle.leaf_work.specs.Lent.{blank}
-use Rattle.leaf_work.specs.Flat.{entry_of, entries_of, list_of}
 use Rattle.leaf_work.specs.Pending.{held, chunk_places, entry_places, places_of, records_held, listed_places, rest_places, pending_of}
 use Rattle.leaf_work.specs.Ready.{EntryIn, Ready}
 use Rattle.leaf_work.proofs.Tests.{map-append}
 use Rattle.leaf_work.proofs.Operations.{total_append, chunk_held}
-use Rattle.leaf_work.proofs.FlatList.{length_entries, entry_at, rows_and_keys_agree}
+use Rattle.leaf_cut.specs.declared.Aim.{Aim}
 use Rattle.leaf_cut.specs.declared.Cursor.{Cursor}
 use Rattle.leaf_cut.specs.declared.Ended.{Ended}
 use Rattle.leaf_cut.specs.declared.Taken as code
-use Rattle.leaf_cut.specs.Sizes.{sizes, cut_sizes, row_sizes, listed_sizes, pending_sizes, index_of, sizes_from}
+use Rattle.leaf_cut.specs.Sizes.{sizes, cut_sizes, entry_sizes, listed_sizes, pending_sizes, index_of, sizes_from}
 use Rattle.leaf_cut.specs.Records.{span_of, first_cursor, spanned_records, records_from}
 use Rattle.leaf_cut.specs.Steps.{Spread, Leafed, Kept}
 use Rattle.leaf_cut.proofs.Ending.{ends_before, ends_behind, ends_later}
@@ -178,117 +178,104 @@ module _ (page : List ℕ) (n : ℕ) (laid : 0 < n → Laid page n) where
   unfolding records_between
   chunk_sizes store from to o h = ap sizes (chunk_held store page from to) ∙ run_sizes (to - from) from (omega arith)
 
-  pub entry_sizes : (store row key : List ℕ) (low filled : ℕ) → low ≤ n → filled ≤ length store → EntryIn low filled (entry_of row key)
-      → sizes (records_held store page (entry_places page (entry_of row key))) ≡ row_sizes page row
-  unfolding entry_places row_sizes held
-  entry_sizes store row key low filled l f h = go (eqb (get_or row 0 0) 1) refl
+  pub sizes_of_an_entry : (store : List ℕ) (entry : Entry) (low filled : ℕ) → low ≤ n → filled ≤ length store → EntryIn low filled entry
+      → sizes (records_held store page (entry_places page entry)) ≡ entry_sizes page entry
+  unfolding entry_places entry_sizes held
+  sizes_of_an_entry store entry low filled l f h = go (eqb entry.kind 1) refl
     where
-      go : (b : Bool) → eqb (get_or row 0 0) 1 ≡ b → sizes (records_held store page (entry_places page (entry_of row key))) ≡ row_sizes page row
+      go : (b : Bool) → eqb entry.kind 1 ≡ b → sizes (records_held store page (entry_places page entry)) ≡ entry_sizes page entry
       go true e =
           let o = h.insert (eqb-true _ _ e) in
-          let v : length (take (get_or row 3 0 - get_or row 2 0) (drop (get_or row 2 0) store)) ≡ get_or row 3 0 - get_or row 2 0 = length-take-le (get_or row 3 0 - get_or row 2 0) (drop (get_or row 2 0) store) (rw (length-drop (get_or row 2 0) store) (omega (arith, o.0, o.1))) in
+          let v : length (take (entry.to - entry.from) (drop entry.from store)) ≡ entry.to - entry.from = length-take-le (entry.to - entry.from) (drop entry.from store) (rw (length-drop entry.from store) (omega (arith, o.0, o.1))) in
           rw (entry_places, e) (λ j. v j ∷ [])
       go false e =
           let o = h.chunk (eqb-false _ _ e) in
-          rw (entry_places, e) (chunk_sizes store (get_or row 2 0) (get_or row 3 0) (omega (arith, o.0)) (omega (arith, o.1)))
+          rw (entry_places, e) (chunk_sizes store entry.from entry.to (omega (arith, o.0)) (omega (arith, o.1)))
 
-  listed_sizes_lem : (store : List ℕ) (low filled : ℕ) → low ≤ n → filled ≤ length store → (used : ℕ) (rows keys : List (List ℕ)) → length rows ≡ length keys
-      → ((i : ℕ) → i < used → EntryIn low filled (get_or (entries_of rows keys) i blank)) → used ≤ length rows
-      → sizes (records_held store page (places_of page (take used (entries_of rows keys)))) ≡ listed_sizes page used rows
+  listed_sizes_lem : (store : List ℕ) (low filled : ℕ) → low ≤ n → filled ≤ length store → (used : ℕ) (list : List Entry)
+      → ((i : ℕ) → i < used → EntryIn low filled (get_or list i blank)) → used ≤ length list
+      → sizes (records_held store page (places_of page (take used list))) ≡ listed_sizes page used list
   unfolding listed_sizes
-  listed_sizes_lem store low filled l f zero rows keys e h u = refl
-  listed_sizes_lem store low filled l f (suc used) [] keys e h u = refl
-  listed_sizes_lem store low filled l f (suc used) (r ∷ rs) [] e h u = absurd (omega arith)
-  listed_sizes_lem store low filled l f (suc used) (r ∷ rs) (k ∷ ks) e h u =
-      let x = entry_places page (entry_of r k) in
-      let y = places_of page (take used (entries_of rs ks)) in
+  listed_sizes_lem store low filled l f zero list h u = refl
+  listed_sizes_lem store low filled l f (suc used) [] h u = refl
+  listed_sizes_lem store low filled l f (suc used) (e ∷ es) h u =
+      let x = entry_places page e in
+      let y = places_of page (take used es) in
       ap sizes (map-append (held store page) x y) ∙ sizes_append (records_held store page x) (records_held store page y)
-      ∙ rw (entry_sizes store r k low filled l f (h 0 (omega arith)), listed_sizes_lem store low filled l f used rs ks (omega arith) (λ i q. h (suc i) (omega arith)) (omega arith))
+      ∙ rw (sizes_of_an_entry store e low filled l f (h 0 (omega arith)), listed_sizes_lem store low filled l f used es (λ i q. h (suc i) (omega arith)) (omega arith))
 
 -- ---- what is lent and earns no refusal
 
-module _ (w : Work) (rows keys : List (List ℕ)) (store page : List ℕ) (rd : Ready w (list_of rows keys) store page) where
-  agree : (length rows ≡ length keys) × (list_of rows keys ≡ entries_of rows keys)
-  agree = rows_and_keys_agree rows keys rd.list_there
-
-  rows_long : w.used ≤ length rows
-  rows_long = omega (arith, rd.used_in, ap length agree.1, length_entries rows keys agree.0)
-
-  entries : (i : ℕ) → i < w.used → EntryIn w.low w.filled (get_or (entries_of rows keys) i blank)
-  entries i h = rw agree.1 at (rd.entries i h)
-
+module _ (w : Work) (list : List Entry) (store page : List ℕ) (rd : Ready w list store page) where
   few : count page ≤ 32767
   few = elim (dec_lt 0 (count page)) [ yes h ↦ omega (arith, (rd.laid h).inside, rd.page_short) | no h ↦ omega arith ]
 
-  pub the_pending_records_by_the_lengths_of_their_values : sizes (pending_of w (list_of rows keys) store page) ≡ pending_sizes rows page (span_of w page)
+  pub the_pending_records_by_the_lengths_of_their_values : sizes (pending_of w list store page) ≡ pending_sizes list page (span_of w)
   unfolding pending_sizes
   the_pending_records_by_the_lengths_of_their_values =
-      ap sizes (map-append (held store page) (listed_places w (list_of rows keys) page) (rest_places w page))
-      ∙ sizes_append (records_held store page (listed_places w (list_of rows keys) page)) (records_held store page (rest_places w page))
+      ap sizes (map-append (held store page) (listed_places w list page) (rest_places w page))
+      ∙ sizes_append (records_held store page (listed_places w list page)) (records_held store page (rest_places w page))
       ∙ rw (
-        agree.1,
-        listed_sizes_lem page (count page) rd.laid store w.low w.filled rd.low_in rd.filled_in w.used rows keys agree.0 entries rows_long,
+        listed_sizes_lem page (count page) rd.laid store w.low w.filled rd.low_in rd.filled_in w.used list rd.entries rd.used_in,
         chunk_sizes page (count page) rd.laid store w.low (count page) rd.low_in (omega arith),
       )
 
-  entry_in : (i : ℕ) → i < w.used → EntryIn w.low 65536 (entry_of (get_or rows i []) [])
-  entry_in i h =
-      let e : EntryIn w.low w.filled (entry_of (get_or rows i []) (get_or keys i [])) = rw (entry_at rows keys i agree.0 (omega (arith, rows_long))) at (entries i h) in
-      record { insert = λ k. ((e.insert k).0, omega (arith, (e.insert k).1, rd.filled_in, rd.store_short)); chunk = e.chunk }
+  -- an entry's value ends no later where more of the store is there
+  entry_in : (end : ℕ) → w.filled ≤ end → (i : ℕ) → i < w.used → EntryIn w.low end (get_or list i blank)
+  entry_in end l i h =
+      let e = rd.entries i h in
+      record { insert = λ k. ((e.insert k).0, omega (arith, (e.insert k).1)); chunk = e.chunk }
 
-  pub what_is_ready_is_spread : Spread rows page (span_of w page)
+  pub what_is_ready_is_spread : Spread list page (span_of w)
   what_is_ready_is_spread = record {
-    used_in = rows_long;
+    used_in = rd.used_in;
     used_few = omega (arith, rd.used_in, rd.list_short);
-    entries = entry_in;
-    rest = record { counted = refl; low_in = rd.low_in; laid = rd.laid; few = few; short = rd.page_short };
+    entries = entry_in 65536 (omega (arith, rd.filled_in, rd.store_short));
+    rest = record { low_in = rd.low_in; laid = rd.laid; few = few; short = rd.page_short };
   }
 
-  pub what_is_ready_is_kept : Kept rows keys store page (span_of w page)
+  pub what_is_ready_is_kept : Kept list store page (span_of w)
   what_is_ready_is_kept = record {
-    as_many = agree.0;
-    used_in = rows_long;
+    used_in = rd.used_in;
     used_few = omega (arith, rd.used_in, rd.list_short);
-    entries = λ i h.
-        let e : EntryIn w.low w.filled (entry_of (get_or rows i []) (get_or keys i [])) = rw (entry_at rows keys i agree.0 (omega (arith, rows_long))) at (entries i h) in
-        record { insert = λ k. ((e.insert k).0, omega (arith, (e.insert k).1, rd.filled_in)); chunk = e.chunk };
+    entries = entry_in (length store) rd.filled_in;
     rest = what_is_ready_is_spread.rest;
     store_short = rd.store_short;
   }
 
-  pub sizes_from_a_cursor : (at : Cursor) → sizes (records_from (span_of w page) rows keys store page at) ≡ sizes_from rows page (span_of w page) at
+  pub sizes_from_a_cursor : (at : Cursor) → sizes (records_from (span_of w) list store page at) ≡ sizes_from list page (span_of w) at
   unfolding records_from spanned_records sizes_from
   sizes_from_a_cursor at =
-      sym (drop_sizes (index_of rows page at) (pending_of w (list_of rows keys) store page)) ∙ ap (drop (index_of rows page at)) the_pending_records_by_the_lengths_of_their_values
+      sym (drop_sizes (index_of list page at) (pending_of w list store page)) ∙ ap (drop (index_of list page at)) the_pending_records_by_the_lengths_of_their_values
 
-  module _ (limit target : ℕ) (start : Cursor) (t : code.Taken) (l : Leafed limit target rows page (span_of w page) start t) where
+  module _ (a : Aim) (start : Cursor) (t : code.Taken) (l : Leafed a list page (span_of w) start t) where
     -- the leaf is document 01's
-    pub cutting_by_chunks_is_cutting_by_records : take_until limit target [] (records_from (span_of w page) rows keys store page start) ≡ taken_by t.end (records_from (span_of w page) rows keys store page start)
+    pub cutting_by_chunks_is_cutting_by_records : take_until a.limit a.target [] (records_from (span_of w) list store page start) ≡ taken_by t.end (records_from (span_of w) list store page start)
     unfolding total
     cutting_by_chunks_is_cutting_by_records =
-        a_leaf_ends_by_the_lengths_of_its_values limit target [] (records_from (span_of w page) rows keys store page start)
-        ∙ ap (λ (e : Ended). taken_by e (records_from (span_of w page) rows keys store page start)) (ap (cut_sizes limit target 0 0) (sizes_from_a_cursor start) ∙ sym l.ended)
+        a_leaf_ends_by_the_lengths_of_its_values a.limit a.target [] (records_from (span_of w) list store page start)
+        ∙ ap (λ (e : Ended). taken_by e (records_from (span_of w) list store page start)) (ap (cut_sizes a.limit a.target 0 0) (sizes_from_a_cursor start) ∙ sym l.ended)
 
     -- what remains is what the cursor behind it stands before
-    pub the_cursor_stands_behind_the_leaf : drop t.end.count (records_from (span_of w page) rows keys store page start) ≡ records_from (span_of w page) rows keys store page t.at
+    pub the_cursor_stands_behind_the_leaf : drop t.end.count (records_from (span_of w) list store page start) ≡ records_from (span_of w) list store page t.at
     unfolding records_from spanned_records
     the_cursor_stands_behind_the_leaf =
-        drop-drop t.end.count (index_of rows page start) (pending_of w (list_of rows keys) store page)
-        ∙ ap (λ (i : ℕ). drop i (pending_of w (list_of rows keys) store page)) (sym l.further)
+        drop-drop t.end.count (index_of list page start) (pending_of w list store page)
+        ∙ ap (λ (i : ℕ). drop i (pending_of w list store page)) (sym l.further)
 
-    pub the_leaf_has_its_bytes : t.end.bytes ≡ total (take t.end.count (records_from (span_of w page) rows keys store page start))
+    pub the_leaf_has_its_bytes : t.end.bytes ≡ total (take t.end.count (records_from (span_of w) list store page start))
     the_leaf_has_its_bytes =
-        let xs : List Record = records_from (span_of w page) rows keys store page start in
-        let q : t.end ≡ cut_sizes limit target 0 0 (sizes xs) = l.ended ∙ ap (cut_sizes limit target 0 0) (sym (sizes_from_a_cursor start)) in
-        ap (λ (e : Ended). e.bytes) q ∙ bytes_of_a_leaf limit target xs 0 0 t.end.count (sym (ap (λ (e : Ended). e.count) q) ∙ omega arith) ∙ omega arith
+        let xs : List Record = records_from (span_of w) list store page start in
+        let q : t.end ≡ cut_sizes a.limit a.target 0 0 (sizes xs) = l.ended ∙ ap (cut_sizes a.limit a.target 0 0) (sym (sizes_from_a_cursor start)) in
+        ap (λ (e : Ended). e.bytes) q ∙ bytes_of_a_leaf a.limit a.target xs 0 0 t.end.count (sym (ap (λ (e : Ended). e.count) q) ∙ omega arith) ∙ omega arith
 
-    pub the_leaf_has_its_records : t.end.count ≤ length (records_from (span_of w page) rows keys store page start)
+    pub the_leaf_has_its_records : t.end.count ≤ length (records_from (span_of w) list store page start)
     the_leaf_has_its_records =
-        let xs : List Record = records_from (span_of w page) rows keys store page start in
-        let q : t.end ≡ cut_sizes limit target 0 0 (sizes xs) = l.ended ∙ ap (cut_sizes limit target 0 0) (sym (sizes_from_a_cursor start)) in
-        omega (arith, a_leaf_takes_no_more_than_there_is limit target (sizes xs) 0 0 t.end q, length-map xs (λ (r : Record). length r.value))
+        let xs : List Record = records_from (span_of w) list store page start in
+        let q : t.end ≡ cut_sizes a.limit a.target 0 0 (sizes xs) = l.ended ∙ ap (cut_sizes a.limit a.target 0 0) (sym (sizes_from_a_cursor start)) in
+        omega (arith, a_leaf_takes_no_more_than_there_is a.limit a.target (sizes xs) 0 0 t.end q, length-map xs (λ (r : Record). length r.value))
 
 -- from the start on they are all that is pending
-pub all_records_are_pending : (w : Work) (rows keys : List (List ℕ)) (store page : List ℕ) → records_from (span_of w page) rows keys store page first_cursor ≡ pending_of w (list_of rows keys) store page
+pub all_records_are_pending : (w : Work) (list : List Entry) (store page : List ℕ) → records_from (span_of w) list store page first_cursor ≡ pending_of w list store page
 unfolding records_from spanned_records index_of listed_sizes
-all_records_are_pending w rows keys store page = refl
+all_records_are_pending w list store page = refl

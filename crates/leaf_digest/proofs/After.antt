@@ -2,7 +2,7 @@
 use mathlib.Core.Path.{◌≡◌, refl}
 use mathlib.Core.Bool.{Bool, true, false, cond}
 use mathlib.Core.List.{List, [], ◌∷◌}
-use Prim.Native.Nat.{ℕ, ◌-◌}
+use Prim.Native.Nat.{ℕ}
 use native.Mathlib.Omega.{arith}
 use lib.ListN.{length}
 use borrow.Author.Tests.{eq-eqb, ne_eqb}
@@ -43,13 +43,9 @@ module _ (w : Work) (g : Gauge) (s : List ℕ) where
   unfolding digest_work_by
   nothing_is_kept h = rw (eq-eqb g.count 0 h)
 
-  pub records_are_kept_for_a_merge : (g.count ≡ 0 → ⊥) → (w.cut ≡ 0 → ⊥) → work_like 2 1 s w.cutoff ≡ digest_work_by w g s
+  pub records_are_kept : (g.count ≡ 0 → ⊥) → (f : List ℕ) → f ≡ cond (is_set w.cut) w.cutoff w.floor → work_like 2 1 s f ≡ digest_work_by w g s
   unfolding digest_work_by
-  records_are_kept_for_a_merge h k = rw (ne_eqb g.count 0 h, ne_eqb w.cut 0 k)
-
-  pub records_are_kept : (g.count ≡ 0 → ⊥) → w.cut ≡ 0 → work_like 2 1 s w.floor ≡ digest_work_by w g s
-  unfolding digest_work_by
-  records_are_kept h k = rw (ne_eqb g.count 0 h, eq-eqb w.cut 0 k)
+  records_are_kept h f e = rw (ne_eqb g.count 0 h, e)
 
 either_floor : (b : Bool) (k f : List ℕ) → cond b k f ≡ or_else (key_if b k) f
 either_floor true k f = refl

@@ -1,55 +1,32 @@
 -- The number of a digest: the lent things, the turn, the room for its pages. Assumes nothing.
-use mathlib.Core.Path.{◌≡◌, refl, sym, ap, ◌∙◌}
+use mathlib.Core.Path.{◌≡◌, sym, ap, ◌∙◌}
 use mathlib.Core.Bool.{Bool, true, false, not, ◌&&◌}
-use mathlib.Core.List.{List, []}
+use mathlib.Core.List.{List}
 use Prim.Native.Nat.{ℕ, ◌+◌, ◌-◌, ◌*◌, ◌≤◌}
 use native.Mathlib.Omega.{arith}
-use native.Mathlib.Decide.{dec_lt}
 use lib.Dec.{leb}
 use lib.ListN.{length, length-append}
-use borrow.Author.Tests.{eq-eqb, ne_eqb, not-true, not-false}
+use borrow.Author.Tests.{not-true, not-false}
+use Rattle.refusal.specs.Refusal.{out_of_turn, short_area}
 use Rattle.leaf_node.specs.Limits.{PageSize, pages_asked}
 use Rattle.leaf_node.specs.Record.{body, total}
 use Rattle.leaf_node.specs.Page.{count, record_at, records_between, values_size}
 use Rattle.leaf_node.proofs.Lengths.{length_run, body_is_pointers_and_values}
-use Rattle.leaf_node.proofs.Reading.{good_pages_are_laid}
 use Rattle.leaf_work.specs.declared.Work.{Work}
 use Rattle.leaf_work.specs.declared.Entry.{Entry}
-use Rattle.leaf_work.specs.Lent.{regarded}
+use Rattle.leaf_work.specs.Lent.{is_open, regarded}
 use Rattle.leaf_work.specs.Pending.{pending_of}
-use Rattle.leaf_work.specs.Verdict.{lent_verdict, digest_verdict}
+use Rattle.leaf_work.specs.Verdict.{lent_verdict, has_pages, digest_verdict}
 use Rattle.leaf_work.proofs.Operations.{Op, records_of_ops, total_append}
 use Rattle.leaf_work.proofs.Laid.{pending_is}
-use Rattle.leaf_work.proofs.Readiness.{accepted_things_are_ready, ops, laid, rows, low_in}
+use Rattle.leaf_work.proofs.Readiness.{accepted_things_are_ready, ops, laid, low_in}
 use Rattle.leaf_base.proofs.Bases.{first_refused}
-use Rattle.leaf_check.specs.Settled.{Regardable}
-use Rattle.leaf_check.proofs.Results.{no_page}
-use Rattle.leaf_check.proofs.Verdicts.{a_regarded_page_is_good}
 use Rattle.leaf_cut.specs.declared.Gauge.{Gauge}
-use Rattle.leaf_cut.specs.Steps.{Modest, Rest}
+use Rattle.leaf_cut.specs.Steps.{Modest}
 use Rattle.leaf_digest.specs.Steps.{body_with}
 
 abbrev pub listed_gauge : Work → Gauge
 listed_gauge w = record { count = w.count; bytes = w.bytes }
-
--- ---- the base's rest
-
-pub a_regarded_page_has_a_rest : (size : ℕ) (p : List ℕ) (n low : ℕ) → PageSize size → Regardable size p → low ≤ count p → n ≡ count p → n ≤ 32767 → Rest p n low
-a_regarded_page_has_a_rest size p n low s g l e f = elim (dec_lt 0 (length p)) [
-  | yes h ↦
-      let good = g.good h in
-      record { counted = e; low_in = omega arith; laid = λ k. rw e (good_pages_are_laid size p s good); few = f; short = omega (arith, good.sized, s.most) }
-  | no h ↦
-      let z : 0 ≡ count p = no_page size p (omega arith) in
-      record { counted = e; low_in = omega arith; laid = λ k. absurd (omega arith); few = f; short = omega arith }
-]
-
-pub the_area_is_tested : (size : ℕ) (listed : Gauge) (p : List ℕ) (low n : ℕ) (g : Gauge) (area tickets : ℕ) (r : Bool) → n ≡ count p
-    → g.count ≡ listed.count + (n - low) → g.bytes ≡ listed.bytes + values_size p low n
-    → r ≡ (leb (pages_asked size (34 * g.count + g.bytes) * size) area && leb (pages_asked size (34 * g.count + g.bytes) * 65) tickets)
-    → r ≡ (leb (pages_asked size (body_with listed p low) * size) area && leb (pages_asked size (body_with listed p low) * 65) tickets)
-unfolding body_with
-the_area_is_tested size listed p low n g area tickets r e gc gb q = rw (q, gc, gb, e)
 
 -- ---- all that is pending
 
@@ -89,33 +66,33 @@ module _ (size : ℕ) (w : Work) (list : List Entry) (store page area tickets : 
   unfolding digest_verdict
   what_is_lent_comes_first h = rw (← e) (sym (first_refused v _ h))
 
-  module _ (z : v ≡ 0) where
-    pub only_an_open_work_is_digested : (w.turn ≡ 1 → ⊥) → 9 ≡ number
+  module _ (z : v ≡ 0) (p : List ℕ) (q : p ≡ regarded w page) where
+    pub only_an_open_work_is_digested : (t : Bool) → t ≡ is_open w → not t ≡ true → out_of_turn ≡ number
     unfolding digest_verdict
-    only_an_open_work_is_digested h = rw (← e, z, ne_eqb w.turn 1 h)
+    only_an_open_work_is_digested t f h = rw (← e, z, ← f, not-true t h)
+
+    pub the_rest_is_there : (n : ℕ) → n ≡ count p → w.low ≤ n
+    the_rest_is_there n f = rw (f, q) (low_in size w list store page (sym e ∙ z))
 
     pub listed_gauge_is_modest : PageSize size → Modest (listed_gauge w)
     listed_gauge_is_modest s =
         let r = accepted_things_are_ready size w list store page (sym e ∙ z) s in
         record { few = omega (arith, r.few); short = omega (arith, r.store_room, r.store_short) }
 
-    module _ (p : List ℕ) (q : p ≡ regarded w page) where
-      pub what_is_lent_has_a_regarded_page : Regardable size p
-      what_is_lent_has_a_regarded_page = rw q (a_regarded_page_is_good size w [] [] [] page 0 (sym (rows size w list store page (sym e ∙ z)).base) refl)
+    module _ (n : ℕ) (l : n ≡ count p) (g : Gauge) (gc : g.count ≡ w.count + (n - w.low)) (gb : g.bytes ≡ w.bytes + values_size p w.low n)
+        (o : Bool) (f : o ≡ is_open w) (i : not o ≡ false) (t : Bool)
+        (r : t ≡ (leb (pages_asked size (34 * g.count + g.bytes) * size) (length area) && leb (pages_asked size (34 * g.count + g.bytes) * 65) (length tickets))) where
+      the_body : 34 * g.count + g.bytes ≡ body_with (listed_gauge w) p w.low
+      unfolding body_with
+      the_body = rw (gc, gb, l)
 
-      pub what_is_lent_has_a_low_end : w.low ≤ count p
-      what_is_lent_has_a_low_end = rw q (low_in size w list store page (sym e ∙ z))
+      pages : has_pages size (pending_of w list store (regarded w page)) area tickets ≡ t
+      pages = rw (the_pending_body size w list store page (sym e ∙ z), ← q, ← the_body) (sym r)
 
-      module _ (o : w.turn ≡ 1) (t : Bool)
-          (f : t ≡ (leb (pages_asked size (body_with (listed_gauge w) p w.low) * size) (length area) && leb (pages_asked size (body_with (listed_gauge w) p w.low) * 65) (length tickets))) where
-        pages : (leb (pages_asked size (body (pending_of w list store (regarded w page))) * size) (length area)
-            && leb (pages_asked size (body (pending_of w list store (regarded w page))) * 65) (length tickets)) ≡ t
-        pages = rw (the_pending_body size w list store page (sym e ∙ z), ← q) (sym f)
+      pub a_short_area_has_number_17 : not t ≡ true → short_area ≡ number
+      unfolding digest_verdict
+      a_short_area_has_number_17 h = rw (pages, ← e, z, ← f, not-false o i, not-true t h)
 
-        pub a_short_area_has_number_17 : not t ≡ true → 17 ≡ number
-        unfolding digest_verdict
-        a_short_area_has_number_17 h = rw (pages, ← e, z, eq-eqb w.turn 1 o, not-true t h)
-
-        pub an_area_with_room_passes : not t ≡ false → 0 ≡ number
-        unfolding digest_verdict
-        an_area_with_room_passes h = rw (pages, ← e, z, eq-eqb w.turn 1 o, not-false t h)
+      pub an_area_with_room_passes : not t ≡ false → 0 ≡ number
+      unfolding digest_verdict
+      an_area_with_room_passes h = rw (pages, ← e, z, ← f, not-false o i, not-false t h)

@@ -1,26 +1,16 @@
 -- What the functions require, as plain facts, and small definitions that their contracts cite.
-use Rattle.std.specs.Prelude.{◌≡◌, true, ◌&&◌, cond, List, map, ℕ, ◌+◌, ◌-◌, ◌*◌, length, take, drop}
+use Rattle.std.specs.Prelude.{◌≡◌, true, ◌&&◌, cond, List, ℕ, ◌+◌, ◌-◌, ◌*◌, length, take, drop}
 use Rattle.leaf_node.specs.Page.{count, values_size}
 use Rattle.leaf_model.specs.Work.{Waiting, Done, zero_key}
 use Rattle.leaf_work.specs.declared.Work.{Work}
 use Rattle.leaf_work.specs.declared.Entry.{Entry}
-use Rattle.leaf_work.specs.Verdict.{lent_verdict}
 use Rattle.leaf_work.specs.Tests.{every, is_zero, is_set, bit}
 use Rattle.leaf_work.specs.Lent.{turn_number}
-use Rattle.leaf_work.specs.Flat.{list_of, row_of}
 use Rattle.leaf_work.specs.Sound.{placed}
 use Rattle.leaf_work.specs.Digest as outcome
 use Rattle.leaf_cut.specs.declared.Gauge.{Gauge}
 use Rattle.leaf_give.specs.Giving.{Gives, pending, planned}
 use Rattle.leaf_merge.specs.Keeping.{RoomToKeep}
-use Rattle.leaf_digest.specs.declared.Digested.{Digested}
-use Rattle.leaf_digest.specs.Reply.{reply_of, cutoff_beside}
-
--- the number that Nos. 1 to 8 come to for this work and page, with some list and store
-pub record Judged (size : ℕ) (w : Work) (page : List ℕ) (lent : ℕ) : Type 0 where
-  pub list : List Entry
-  pub store : List ℕ
-  pub is : lent ≡ lent_verdict size w list store page
 
 -- "B is the body size of all pending records": what is listed, and the base's rest from `low` on
 unfoldable pub body_with : Gauge → List ℕ → ℕ → ℕ
@@ -49,19 +39,17 @@ digest_work_by w left separator = record {
 }
 
 -- a work whose lent things earn no refusal and whose leaves have room
-pub record Digests (size : ℕ) (w : Work) (rows keys : List (List ℕ)) (store page area tickets : List ℕ) : Type 0 where
-  pub gives : Gives size w rows keys store page area tickets
-  pub in_place : placed w.filled 0 (take w.used (list_of rows keys)) ≡ true
+pub record Digests (size : ℕ) (w : Work) (list : List Entry) (store page area tickets : List ℕ) : Type 0 where
+  pub gives : Gives size w list store page area tickets
+  pub in_place : placed w.filled 0 (take w.used list) ≡ true
   pub unused : every is_zero (drop w.filled store) ≡ true
-  pub room : RoomToKeep (length rows) (length (pending size w rows keys store page)) w.used (length (planned size w rows keys store page).left)
+  pub room : RoomToKeep (length list) (length (pending size w list store page)) w.used (length (planned size w list store page).left)
 
--- what an accepted digest with the outcome o leaves
-pub record Leaves (o : outcome.Digested) (r : Digested) (rows' keys' : List (List ℕ)) (store' area' tickets' : List ℕ) : Type 0 where
-  pub reply_is : reply_of r.reply r.cutoff ≡ o.reply
-  pub cutoff_is : r.cutoff ≡ cutoff_beside o.reply
-  pub work_is : r.work ≡ o.work
-  pub rows_are : rows' ≡ map row_of o.list
-  pub keys_are : keys' ≡ map (λ e. e.key) o.list
+-- what an accepted digest with the outcome o answers and leaves
+pub record Leaves (o : outcome.Digested) (reply : outcome.DigestReply) (w' : Work) (list' : List Entry) (store' area' tickets' : List ℕ) : Type 0 where
+  pub reply_is : reply ≡ o.reply
+  pub work_is : w' ≡ o.work
+  pub list_is : list' ≡ o.list
   pub store_is : store' ≡ o.store
   pub area_is : area' ≡ o.area
   pub tickets_are : tickets' ≡ o.tickets

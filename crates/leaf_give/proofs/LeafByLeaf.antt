@@ -2,15 +2,15 @@
 use mathlib.Core.Path.{◌≡◌, refl, sym, ap, ◌∙◌}
 use mathlib.Core.Bool.{Bool, true, false}
 use mathlib.Core.Option.{none, some}
+use Rattle.std.specs.Prelude.{Some}
 use mathlib.Core.List.{List, [], ◌∷◌, ◌++◌, append-nil, append_assoc}
 use Prim.Native.Nat.{ℕ, ◌+◌, ◌-◌, ◌≤◌, ◌<◌}
 use native.Mathlib.Omega.{arith}
-use lib.ListN.{length, take, drop, length-append, length-drop, take-append-drop}
+use lib.ListN.{length, take, drop, length-append, take-append-drop}
 use lib.Seq.{length-take-le}
 use Rattle.bit_ops.specs.Key.{lt_key}
 use Rattle.leaf_node.specs.Limits.{body_limit, pages_asked}
 use Rattle.leaf_node.specs.Record.{Record, cost, body, total}
-use Rattle.leaf_node.specs.Page.{count}
 use Rattle.leaf_node.specs.Fits.{All, Keyed, Fitting}
 use Rattle.leaf_model.specs.Basics.{joined, nonempty}
 use Rattle.leaf_model.specs.Cut.{Cut, nothing_cut, with_leaf, target_of, cut, cut_all}
@@ -20,11 +20,10 @@ use Rattle.leaf_model.proofs.Lists.{all_head, all_left, all_right_lem, all_map}
 use Rattle.leaf_model.proofs.Cutting.{LeafSized, limits_agree, cut_leaves_fit, target_enough, target_fits}
 use Rattle.leaf_model.proofs.Plan.{leaves_never_more_than_pages_asked}
 use Rattle.leaf_model.proofs.AsThePaperSays.{continued, first_leaf}
+use Rattle.leaf_work.specs.declared.Entry.{Entry}
 use Rattle.leaf_work.specs.declared.Work.{Work}
-use Rattle.leaf_work.specs.Tests.{is_set, key_if}
 use Rattle.leaf_work.specs.Lent.{cutoff_of}
 use Rattle.leaf_cut.specs.declared.Gauge.{Gauge}
-use Rattle.leaf_cut.specs.declared.Span.{Span}
 use Rattle.leaf_cut.specs.declared.Cursor.{Cursor}
 use Rattle.leaf_cut.specs.declared.Taken as code
 use Rattle.leaf_cut.specs.Records.{span_of, records_from}
@@ -32,15 +31,8 @@ use Rattle.leaf_cut.specs.Steps.{Spread, CursorIn, Leafed}
 use Rattle.leaf_cut.proofs.Records.{taken_by, what_is_ready_is_spread, what_is_ready_is_kept, cutting_by_chunks_is_cutting_by_records, the_cursor_stands_behind_the_leaf, the_leaf_has_its_bytes, the_leaf_has_its_records}
 use Rattle.leaf_give.specs.declared.Progress.{Progress}
 use Rattle.leaf_give.specs.Giving.{pending, Gives}
-use Rattle.leaf_give.specs.Steps.{LeafThere, LeafGiven, Along, Begun}
+use Rattle.leaf_give.specs.Steps.{aim_of, LeafThere, LeafGiven, Along, Begun}
 use Rattle.leaf_give.proofs.Onward.{no_leaf_is_given_yet, the_area_has_room, the_tickets_have_room, one_more_leaf_is_given}
-
--- the span as the code has it
-abbrev pub span_by : Work → ℕ → Span
-span_by w n = record { used = w.used; low = w.low; n = n }
-
-pub spanned : (w : Work) (page : List ℕ) (n : ℕ) → n ≡ count page → span_by w n ≡ span_of w page
-spanned w page n e = λ j. record { used = w.used; low = w.low; n = e j }
 
 -- leaves, and behind them those of a cut
 abbrev pub after : List (List Record) → Cut → Cut
@@ -62,17 +54,17 @@ rise_right (x ∷ []) [] h = refl
 rise_right (x ∷ []) (r ∷ rs) h = and_right (lt_key x.key r.key) (is_rising (r ∷ rs)) h
 rise_right (x ∷ y ∷ ys) m h = rise_right (y ∷ ys) m (and_right (lt_key x.key y.key) (is_rising ((y ∷ ys) ++ m)) h)
 
-module _ (size : ℕ) (w : Work) (rows keys : List (List ℕ)) (store page area tickets : List ℕ) (target : ℕ) where
+module _ (size : ℕ) (w : Work) (list : List Entry) (store page area tickets : List ℕ) (target : ℕ) where
   -- the leaves so far have been given out, those behind them are still to be cut, and `next` was sought as the first of these
   pub record Cutting (p : Progress) (a t : List ℕ) (next : code.Taken) : Type 0 where
     pub so_far : Cut
-    pub along : Along size w rows keys store page area tickets so_far p a t
-    pub rest : cut_all size (pending size w rows keys store page) ≡ after so_far.leaves (cut (body_limit size) target [] 0 so_far.left)
-    pub leafed : Leafed (body_limit size) target rows page (span_of w page) p.at next
+    pub along : Along size w list store page area tickets so_far p a t
+    pub rest : cut_all size (pending size w list store page) ≡ after so_far.leaves (cut (body_limit size) target [] 0 so_far.left)
+    pub leafed : Leafed (aim_of size target) list page (span_of w) p.at next
 
-module _ (size : ℕ) (w : Work) (rows keys : List (List ℕ)) (store page area tickets : List ℕ) (g : Gives size w rows keys store page area tickets) where
+module _ (size : ℕ) (w : Work) (list : List Entry) (store page area tickets : List ℕ) (g : Gives size w list store page area tickets) where
   abbrev all : List Record
-  all = pending size w rows keys store page
+  all = pending size w list store page
 
   pub cut_leaves_have_pages : length (cut_all size all).leaves ≤ pages_asked size (body all)
   unfolding plan
@@ -93,17 +85,14 @@ module _ (size : ℕ) (w : Work) (rows keys : List (List ℕ)) (store page area 
         all_map (λ r h. omega (arith, (limits_agree size g.sized).room)) a
 
   module _ (target : ℕ) where
-    module _ (e : target_of size (body all) ≡ some target) (n : ℕ) (en : n ≡ count page) where
-      es : span_by w n ≡ span_of w page
-      es = spanned w page n en
-
+    module _ (e : target_of size (body all) ≡ Some target) where
       -- what seeking a leaf requires
-      a_leaf_can_be_sought : (at : Cursor) → CursorIn rows page (span_of w page) at
-          → (Spread rows page (span_by w n)) × (CursorIn rows page (span_by w n) at) × (0 < target) × (target ≤ size - 2) × (size - 2 ≤ 32767)
+      a_leaf_can_be_sought : (at : Cursor) → CursorIn list page (span_of w) at
+          → (Spread list page (span_of w)) × (CursorIn list page (span_of w) at) × (0 < target) × (target ≤ size - 2) × (size - 2 ≤ 32767)
       unfolding body_limit
       a_leaf_can_be_sought at h = (
-        rw es (what_is_ready_is_spread w rows keys store page g.ready),
-        rw es h,
+        what_is_ready_is_spread w list store page g.ready,
+        h,
         omega (arith, target_enough size g.sized (body all) target e, (limits_agree size g.sized).some_body),
         target_fits size g.sized (body all) target e,
         omega (arith, g.sized.most),
@@ -113,28 +102,24 @@ module _ (size : ℕ) (w : Work) (rows keys : List (List ℕ)) (store page area 
       unfolding cut_all
       all_cut = rw (e, cut_all)
 
-      leafed_by : (from : Cursor) (next : code.Taken) → Leafed (size - 2) target rows page (span_by w n) from next → Leafed (body_limit size) target rows page (span_of w page) from next
-      unfolding body_limit
-      leafed_by from next l = rw es at l
+      pub the_first_leaf_can_be_sought : (p : Progress) → Begun size w list store page p
+          → (Spread list page (span_of w)) × (CursorIn list page (span_of w) p.at) × (0 < target) × (target ≤ size - 2) × (size - 2 ≤ 32767)
+      the_first_leaf_can_be_sought p b = a_leaf_can_be_sought p.at (no_leaf_is_given_yet size w list store page area tickets g p b).there
 
-      pub the_first_leaf_can_be_sought : (p : Progress) → Begun size w rows keys store page p
-          → (Spread rows page (span_by w n)) × (CursorIn rows page (span_by w n) p.at) × (0 < target) × (target ≤ size - 2) × (size - 2 ≤ 32767)
-      the_first_leaf_can_be_sought p b = a_leaf_can_be_sought p.at (no_leaf_is_given_yet size w rows keys store page area tickets g p b).there
-
-      pub cutting_begins : (p : Progress) → Begun size w rows keys store page p → (next : code.Taken) → Leafed (size - 2) target rows page (span_by w n) p.at next → Cutting size w rows keys store page area tickets target p area tickets next
+      pub cutting_begins : (p : Progress) → Begun size w list store page p → (next : code.Taken) → Leafed (aim_of size target) list page (span_of w) p.at next → Cutting size w list store page area tickets target p area tickets next
       cutting_begins p b next l = record {
         so_far = nothing_cut all;
-        along = no_leaf_is_given_yet size w rows keys store page area tickets g p b;
+        along = no_leaf_is_given_yet size w list store page area tickets g p b;
         rest = all_cut;
-        leafed = leafed_by p.at next l;
+        leafed = l;
       }
 
-      module _ (p : Progress) (a t : List ℕ) (next : code.Taken) (i : Cutting size w rows keys store page area tickets target p a t next) where
+      module _ (p : Progress) (a t : List ℕ) (next : code.Taken) (i : Cutting size w list store page area tickets target p a t next) where
         abbrev c : Cut
         c = i.so_far
 
         abbrev R : List Record
-        R = records_from (span_of w page) rows keys store page p.at
+        R = records_from (span_of w) list store page p.at
 
         R_left : R ≡ c.left
         R_left = i.along.left_is
@@ -148,10 +133,10 @@ module _ (size : ℕ) (w : Work) (rows keys : List (List ℕ)) (store page area 
         cut_R : cut (body_limit size) target [] 0 R ≡ continued (body_limit size) target [] R (taken_by next.end R)
         cut_R =
             first_leaf (body_limit size) target [] R (left_fitting c.leaves R R_whole)
-            ∙ ap (continued (body_limit size) target [] R) (cutting_by_chunks_is_cutting_by_records w rows keys store page g.ready (body_limit size) target p.at next i.leafed)
+            ∙ ap (continued (body_limit size) target [] R) (cutting_by_chunks_is_cutting_by_records w list store page g.ready (aim_of size target) p.at next i.leafed)
 
         -- nothing more is cut
-        pub no_leaf_is_left_to_cut : next.end.cut ≡ false → Along size w rows keys store page area tickets (cut_all size all) p a t
+        pub no_leaf_is_left_to_cut : next.end.cut ≡ false → Along size w list store page area tickets (cut_all size all) p a t
         no_leaf_is_left_to_cut f =
             let n : taken_by next.end R ≡ none = rw f in
             let q : cut (body_limit size) target [] 0 R ≡ nothing_cut R = cut_R ∙ ap (continued (body_limit size) target [] R) n in
@@ -167,10 +152,10 @@ module _ (size : ℕ) (w : Work) (rows keys : List (List ℕ)) (store page area 
           l = take next.end.count R
 
           abbrev b : List Record
-          b = records_from (span_of w page) rows keys store page next.at
+          b = records_from (span_of w) list store page next.at
 
           behind_is : drop next.end.count R ≡ b
-          behind_is = the_cursor_stands_behind_the_leaf w rows keys store page g.ready (body_limit size) target p.at next i.leafed
+          behind_is = the_cursor_stands_behind_the_leaf w list store page g.ready (aim_of size target) p.at next i.leafed
 
           cut_off : cut (body_limit size) target [] 0 R ≡ with_leaf l (cut (body_limit size) target [] 0 b)
           cut_off =
@@ -195,21 +180,21 @@ module _ (size : ℕ) (w : Work) (rows keys : List (List ℕ)) (store page area 
               omega (arith, n, length-append (c.leaves ++ (l ∷ [])) d.leaves, length-append c.leaves (l ∷ []), cut_leaves_have_pages)
 
           many : next.end.count ≤ length R
-          many = the_leaf_has_its_records w rows keys store page g.ready (body_limit size) target p.at next i.leafed
+          many = the_leaf_has_its_records w list store page g.ready (aim_of size target) p.at next i.leafed
 
           some_record : 0 < next.end.count
           some_record =
               let n : length l ≡ next.end.count = length-take-le next.end.count R many in
               omega (arith, n, has_records l leaf_sized.some_record)
 
-          leaf_there : LeafThere size rows keys store page (span_of w page) p leaf next.at (length a) (length t)
+          leaf_there : LeafThere size list store page (span_of w) p leaf next.at (length a) (length t)
           leaf_there = record {
-            kept = what_is_ready_is_kept w rows keys store page g.ready;
+            kept = what_is_ready_is_kept w list store page g.ready;
             from_in = i.along.there;
             behind_in = i.leafed.there;
             fits = record {
               there = many;
-              bytes = the_leaf_has_its_bytes w rows keys store page g.ready (body_limit size) target p.at next i.leafed;
+              bytes = the_leaf_has_its_bytes w list store page g.ready (aim_of size target) p.at next i.leafed;
               fits = record { sized = g.sized; keys = all_left l (drop next.end.count R) (rw (take-append-drop next.end.count R) (left_keyed c.leaves R R_whole)); room = leaf_sized.fits };
             };
             rest = behind_is;
@@ -217,32 +202,28 @@ module _ (size : ℕ) (w : Work) (rows keys : List (List ℕ)) (store page area 
             rise = left_rises c.leaves R R_whole;
             count_is = i.along.count_is ∙ ap length (sym R_left);
             bytes_is = i.along.bytes_is ∙ ap total (sym R_left);
-            page_room_lem = the_area_has_room size w rows keys store page area tickets g c p a t i.along few;
-            ticket_room = the_tickets_have_room size w rows keys store page area tickets g c p a t i.along few;
-            long = i.along.long;
+            page_room_lem = the_area_has_room size w list store page area tickets g c p a t i.along few;
+            ticket_room = the_tickets_have_room size w list store page area tickets g c p a t i.along few;
           }
 
-          pub a_leaf_can_be_given : LeafThere size rows keys store page (span_by w n) p (record { count = next.end.count; bytes = next.end.bytes }) next.at (length a) (length t)
-          a_leaf_can_be_given = rw es leaf_there
+          pub a_leaf_can_be_given : LeafThere size list store page (span_of w) p (record { count = next.end.count; bytes = next.end.bytes }) next.at (length a) (length t)
+          a_leaf_can_be_given = leaf_there
 
-          module _ (k : List ℕ) (ek : k ≡ w.cutoff) (r : Progress) (a' t' : List ℕ)
-              (m : LeafGiven size rows keys store page (span_by w n) p (record { count = next.end.count; bytes = next.end.bytes }) next.at (key_if (is_set w.cut) k) a t r a' t') where
-            given : LeafGiven size rows keys store page (span_of w page) p leaf next.at (key_if (is_set w.cut) k) a t r a' t'
-            given = rw es at m
+          module _ (r : Progress) (a' t' : List ℕ)
+              (m : LeafGiven size list store page (span_of w) p (record { count = next.end.count; bytes = next.end.bytes }) next.at (cutoff_of w) a t r a' t') where
+            given : LeafGiven size list store page (span_of w) p leaf next.at (cutoff_of w) a t r a' t'
+            given = m
 
-            along_further : Along size w rows keys store page area tickets (record { leaves = c.leaves ++ (l ∷ []); left = b }) r a' t'
-            along_further = one_more_leaf_is_given size w rows keys store page area tickets g c p a t i.along leaf next.at leaf_there k ek r a' t' given
+            along_further : Along size w list store page area tickets (record { leaves = c.leaves ++ (l ∷ []); left = b }) r a' t'
+            along_further = one_more_leaf_is_given size w list store page area tickets g c p a t i.along leaf next.at leaf_there r a' t' given
 
-            pub the_next_leaf_can_be_sought : (Spread rows page (span_by w n)) × (CursorIn rows page (span_by w n) r.at) × (0 < target) × (target ≤ size - 2) × (size - 2 ≤ 32767)
+            pub the_next_leaf_can_be_sought : (Spread list page (span_of w)) × (CursorIn list page (span_of w) r.at) × (0 < target) × (target ≤ size - 2) × (size - 2 ≤ 32767)
             the_next_leaf_can_be_sought = a_leaf_can_be_sought r.at along_further.there
 
-            pub fewer_records_are_left : r.left.count < p.left.count
-            fewer_records_are_left = omega (arith, given.count_is, leaf_there.count_is, some_record, many, ap length behind_is, length-drop next.end.count R)
-
-            pub cutting_goes_on : (next' : code.Taken) → Leafed (size - 2) target rows page (span_by w n) r.at next' → Cutting size w rows keys store page area tickets target r a' t' next'
+            pub cutting_goes_on : (next' : code.Taken) → Leafed (aim_of size target) list page (span_of w) r.at next' → Cutting size w list store page area tickets target r a' t' next'
             cutting_goes_on next' l' = record {
               so_far = record { leaves = c.leaves ++ (l ∷ []); left = b };
               along = along_further;
               rest = rest_off;
-              leafed = leafed_by r.at next' l';
+              leafed = l';
             }

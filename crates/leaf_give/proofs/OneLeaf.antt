@@ -1,39 +1,34 @@
 -- One leaf: its page in the area, its ticket, and what follows it. Assumes nothing.
-use mathlib.Core.Path.{◌≡◌, refl, sym, ap, ap₂, subst, ◌∙◌}
-use mathlib.Core.Bool.{Bool, true, false, ◌&&◌, cond}
-use mathlib.Core.Option.{Option, some}
+use mathlib.Core.Path.{◌≡◌, refl, sym, ap, subst, ◌∙◌}
+use mathlib.Core.Bool.{Bool, true, ◌&&◌}
+use mathlib.Core.Option.{Option, none}
 use mathlib.Core.List.{List, [], ◌∷◌, ◌++◌, append_assoc}
 use Prim.Native.Nat.{ℕ, ◌+◌, ◌-◌, ◌*◌, ◌/◌, ◌^◌, ◌≤◌, ◌<◌}
 use native.Mathlib.Omega.{arith}
-use native.Mathlib.Decide.{dec_lt}
 use native.Mathlib.Nat.{mul-le-mul_left}
-use lib.Dec.{eqb, ltb}
-use lib.ListN.{length, take, drop, replicate, length-append, length-drop, length-replicate, take-append-drop}
+use lib.Dec.{ltb}
+use lib.ListN.{length, take, drop, length-append, length-drop, take-append-drop}
 use lib.Seq.{length-take-le, take_at, drop_at, drop-drop}
-use borrow.Author.Tests.{eqb-false, not-true}
 use borrow.Rule.Slice.PartMut.{put_mid}
-use Rattle.bit_ops.specs.Key.{eq_key}
 use Rattle.bit_ops.specs.Separate.{separate_of, separate_leaves}
-use Rattle.bit_ops.proofs.Separators.{separator_has_32_bytes}
 use Rattle.leaf_node.specs.Limits.{body_limit, merge_below}
 use Rattle.leaf_node.specs.Record.{Record, total}
 use Rattle.leaf_node.specs.Page.{pointer, key_at}
 use Rattle.leaf_node.specs.Build.{put, build}
 use Rattle.leaf_node.specs.Ticket.{packed_with}
 use Rattle.leaf_node.proofs.Lengths.{body_is_pointers_and_values}
-use Rattle.leaf_node.proofs.Copying.{put_all}
 use Rattle.leaf_node.proofs.RoundTrips.{a_built_page_is_full_length}
 use Rattle.leaf_model.specs.Basics.{nonempty}
 use Rattle.leaf_model.specs.Work.{zero_key, last_key, leaf_cutoff, is_rising}
-use Rattle.leaf_work.specs.Tests.{key_if}
+use Rattle.leaf_work.specs.declared.Entry.{Entry}
 use Rattle.leaf_work.proofs.Operations.{total_append}
 use Rattle.leaf_cut.specs.declared.Gauge.{Gauge}
 use Rattle.leaf_cut.specs.declared.Span.{Span}
 use Rattle.leaf_cut.specs.declared.Cursor.{Cursor}
-use Rattle.leaf_write.specs.Filling.{LeafFits, KeyThere, key_from}
-use Rattle.leaf_write.proofs.Keys.{different_keys_are_separated, a_cursor_has_its_key, first, the_first_key_is_that_of_the_first_record, the_last_key_of_a_leaf}
+use Rattle.leaf_write.specs.Filling.{LeafFits, first_key, key_from}
+use Rattle.leaf_write.proofs.Keys.{different_keys_are_separated, the_first_key_is_that_of_the_first_record, the_last_key_of_a_leaf}
 use Rattle.leaf_give.specs.declared.Progress.{Progress}
-use Rattle.leaf_give.specs.Steps.{more_than, progress_of, TicketAsked, TicketGiven, before, taken, behind, LeafThere, LeafGiven}
+use Rattle.leaf_give.specs.Steps.{progress_of, TicketAsked, between, first_of, TicketGiven, before, taken, behind, LeafThere, LeafGiven}
 use Rattle.leaf_give.proofs.Separating.{a_lower_key_is_another, the_next_key_is_above_a_leaf, the_cutoff_of_a_leaf, the_separator_behind_a_leaf}
 
 -- ---- the page
@@ -60,47 +55,10 @@ module _ (d : List ℕ) (from size : ℕ) (room : from + size ≤ length d) wher
 
 -- ---- the ticket
 
-between_long : (a b : List ℕ) → length (separate_leaves a b zero_key) ≡ 32
-unfolding separate_leaves
-between_long a b = go (eq_key a b) refl
-  where
-    go : (e : Bool) → eq_key a b ≡ e → length (separate_leaves a b zero_key) ≡ 32
-    go true e = rw e (length-replicate {A = ℕ} 32 0)
-    go false e = rw e (separator_has_32_bytes a b)
-
-module _ (more : Bool) (tickets : List ℕ) (place : ℕ) (own : List ℕ) (cutoff : List ℕ) (cut : Bool) (tickets' : List ℕ) (after : ℕ) where
-  pub a_ticket_before_more : (built : List ℕ) (last : ℕ) (first next : List ℕ)
-      → more ≡ true → length own ≡ 32 → next ≡ separate_leaves (key_at built last) first zero_key
-      → tickets' ≡ put tickets place (packed_with own (key_if true next)) → after ≡ place + length (packed_with own (key_if true next))
-      → TicketGiven more (separate_leaves (key_at built last) first zero_key) (key_if cut cutoff) tickets place own after next tickets'
-  a_ticket_before_more built last first next m l e t a =
-      let g : length next ≡ 32 = rw e (between_long (key_at built last) first) in
-      rw (← e, m) (record { tickets_are = t; place_is = a; short = omega (arith, length-append own next); separator_is = refl; long = g })
-
-  pub a_ticket_before_none : (between : List ℕ) → more ≡ false → length own ≡ 32 → length cutoff ≡ 32
-      → tickets' ≡ put tickets place (packed_with own (key_if cut cutoff)) → after ≡ place + length (packed_with own (key_if cut cutoff))
-      → TicketGiven more between (key_if cut cutoff) tickets place own after own tickets'
-  a_ticket_before_none between m l k t a =
-      rw m (record { tickets_are = t; place_is = a; short = omega (arith, ticket_short cut); separator_is = refl; long = l })
-    where
-      ticket_short : (b : Bool) → length (packed_with own (key_if b cutoff)) ≤ 65
-      ticket_short true = omega (arith, length-append own cutoff)
-      ticket_short false = omega arith
-
--- what would separate the leaf from records behind it counts only where there are some
-pub the_key_behind_matters_with_more : (more : Bool) (last first key : List ℕ) (cutoff : Option (List ℕ)) (tickets : List ℕ) (place : ℕ) (own : List ℕ) (after : ℕ) (next tickets' : List ℕ)
-    → (more ≡ true → first ≡ key)
-    → TicketGiven more (separate_leaves last first zero_key) cutoff tickets place own after next tickets' → TicketGiven more (separate_leaves last key zero_key) cutoff tickets place own after next tickets'
-the_key_behind_matters_with_more true last first key cutoff tickets place own after next tickets' e t =
-    subst (λ (z : List ℕ). TicketGiven true (separate_leaves last z zero_key) cutoff tickets place own after next tickets') (e refl) t
-the_key_behind_matters_with_more false last first key cutoff tickets place own after next tickets' e t =
-    record { tickets_are = t.tickets_are; place_is = t.place_is; short = t.short; separator_is = t.separator_is; long = t.long }
-
-pub a_copied_key_is_the_key : (k copy : List ℕ) → length k ≡ 32 → copy ≡ put (replicate 32 0) 0 k → copy ≡ k
-a_copied_key_is_the_key k copy l q = q ∙ put_all (replicate 32 0) k l
-
-pub a_copied_key_is_long : (k copy : List ℕ) → length k ≡ 32 → copy ≡ put (replicate 32 0) 0 k → length copy ≡ 32
-a_copied_key_is_long k copy l q = ap length (a_copied_key_is_the_key k copy l q) ∙ l
+module _ (tickets : List ℕ) (place : ℕ) (own : List ℕ) (cutoff : Option (List ℕ)) (tickets' : List ℕ) (after : ℕ) where
+  pub a_ticket_before_none : tickets' ≡ put tickets place (packed_with own cutoff) → after ≡ place + length (packed_with own cutoff) → after ≤ place + 65
+      → TicketGiven none cutoff tickets place own after own tickets'
+  a_ticket_before_none t a s = record { tickets_are = t; place_is = a; short = s; separator_is = refl }
 
 -- ---- page and ticket
 
@@ -116,17 +74,17 @@ put_part_lem d from size b l h =
       take_at b (drop (from + length b) d) size l,
     )
 
-module _ (size : ℕ) (rows keys : List (List ℕ)) (store page : List ℕ) (s : Span) (p : Progress) (leaf : Gauge) (at : Cursor) (area tickets : ℕ)
-    (h : LeafThere size rows keys store page s p leaf at area tickets) where
+module _ (size : ℕ) (list : List Entry) (store page : List ℕ) (s : Span) (p : Progress) (leaf : Gauge) (at : Cursor) (area tickets : ℕ)
+    (h : LeafThere size list store page s p leaf at area tickets) where
   -- what the leaf is taken off, the leaf, and what remains
   abbrev all : List Record
-  all = before size rows keys store page s p leaf at
+  all = before size list store page s p leaf at
 
   abbrev l : List Record
-  l = taken size rows keys store page s p leaf at
+  l = taken size list store page s p leaf at
 
   abbrev b : List Record
-  b = behind size rows keys store page s p leaf at
+  b = behind size list store page s p leaf at
 
   pub both : all ≡ l ++ b
   both = sym (take-append-drop leaf.count all) ∙ ap (λ (x : List Record). l ++ x) h.rest
@@ -154,11 +112,6 @@ module _ (size : ℕ) (rows keys : List (List ℕ)) (store page : List ℕ) (s :
       let one : 1 ≤ size = omega (arith, h.fits.fits.sized.least) in
       let m : p.leaves * 1 ≤ p.leaves * size = mul-le-mul_left p.leaves one in
       omega (arith, m, h.page_room_lem)
-
-  pub the_key_behind_is_there : (p.left.count - leaf.count ≡ 0 → ⊥) → KeyThere rows keys page s at
-  the_key_behind_is_there n =
-      let some : 0 < length b = elim (dec_lt 0 (length b)) [ yes y ↦ y | no y ↦ absurd (n (omega (arith, the_records_left))) ] in
-      a_cursor_has_its_key rows keys store page s h.kept at h.behind_in some
 
   page_long : length (build size l) ≡ size
   page_long = a_built_page_is_full_length size l h.fits.fits
@@ -191,28 +144,24 @@ module _ (size : ℕ) (rows keys : List (List ℕ)) (store page : List ℕ) (s :
       last = the_last_key_is_there;
       room = h.ticket_room;
       few = omega (arith, f, few_leaves_are_given);
-      long = h.long;
     }
 
-    abbrev between : List ℕ
-    between = separate_leaves (key_at (take (p.leaves * size + size - p.leaves * size) (drop (p.leaves * size) built)) (leaf.count - 1)) (key_from s rows keys page at) zero_key
+    abbrev last : List ℕ
+    last = key_at (take (p.leaves * size + size - p.leaves * size) (drop (p.leaves * size) built)) (leaf.count - 1)
 
-    separated : (r : Record) (rs : List Record) → b ≡ r ∷ rs → between ≡ separate_of (last_key l) r.key
+    separated : (r : Record) (rs : List Record) → b ≡ r ∷ rs → separate_leaves last r.key zero_key ≡ separate_of (last_key l) r.key
     separated r rs e =
-        let some : 0 < length b = rw e (omega arith) in
-        let n : key_from s rows keys page at ≡ r.key =
-        sym (the_first_key_is_that_of_the_first_record rows keys store page s h.kept at h.behind_in some) ∙ ap (first rows keys store page s h.kept at h.behind_in some) e in
-        let k : key_at part (leaf.count - 1) ≡ last_key l =
+        let k : last ≡ last_key l =
         ap (λ (x : List ℕ). key_at x (leaf.count - 1)) part_is ∙ ap (λ (m : ℕ). key_at (build size l) (m - 1)) (sym many) ∙ the_last_key_of_a_leaf size l h.fits.fits (omega (arith, many, h.some_record)) in
         let up : is_rising (l ++ (r ∷ rs)) ≡ true = rw (← e, ← both) h.rise in
-        ap₂ (λ (x y : List ℕ). separate_leaves x y zero_key) k n
+        ap (λ (x : List ℕ). separate_leaves x r.key zero_key) k
         ∙ different_keys_are_separated (last_key l) r.key (a_lower_key_is_another (last_key l) r.key (the_next_key_is_above_a_leaf l r rs has_record up))
 
     given : (cutoff : Option (List ℕ)) (lent : List ℕ) (place : ℕ) (separator lent' : List ℕ)
-        → TicketGiven (more_than p leaf) between cutoff lent p.place p.separator place separator lent'
-        → LeafGiven size rows keys store page s p leaf at cutoff held lent (progress_of p leaf at place separator) built lent'
+        → TicketGiven (between last (first_key b)) cutoff lent p.place p.separator place separator lent'
+        → LeafGiven size list store page s p leaf at cutoff held lent (progress_of p leaf at place separator) built lent'
     given cutoff lent place separator lent' t =
-        let o : cond (more_than p leaf) (some between) cutoff ≡ leaf_cutoff l b cutoff = the_cutoff_of_a_leaf l between cutoff b (p.left.count - leaf.count) the_records_left separated in
+        let o : first_of (between last (first_key b)) cutoff ≡ leaf_cutoff l b cutoff = the_cutoff_of_a_leaf l last cutoff b separated in
         record {
           area_is = q;
           tickets_are = t.tickets_are ∙ ap (λ (x : Option (List ℕ)). put lent p.place (packed_with p.separator x)) o;
@@ -220,23 +169,18 @@ module _ (size : ℕ) (rows keys : List (List ℕ)) (store page : List ℕ) (s :
           leaves_are = refl;
           place_is = t.place_is ∙ ap (λ (x : Option (List ℕ)). p.place + length (packed_with p.separator x)) o;
           short = t.short;
-          separator_is = t.separator_is ∙ the_separator_behind_a_leaf l between p.separator b (p.left.count - leaf.count) the_records_left separated;
-          long = t.long;
+          separator_is = t.separator_is ∙ the_separator_behind_a_leaf l last p.separator b separated;
           count_is = the_records_left;
           bytes_is = the_bytes_left;
         }
 
-    pub a_leaf_is_given : (cutoff : Option (List ℕ)) (lent : List ℕ) (first : List ℕ) (r : Progress) (lent' : List ℕ) → ((p.left.count - leaf.count ≡ 0 → ⊥) → first ≡ key_from s rows keys page at)
+    pub a_leaf_is_given : (cutoff : Option (List ℕ)) (lent : List ℕ) (first : Option (List ℕ)) (r : Progress) (lent' : List ℕ) → first ≡ key_from s list page at
         → r ≡ progress_of p leaf at r.place r.separator
-        → TicketGiven (more_than p leaf) (separate_leaves (key_at (take (p.leaves * size + size - p.leaves * size) (drop (p.leaves * size) built)) (leaf.count - 1)) first zero_key)
-        cutoff lent p.place p.separator r.place r.separator lent'
-        → LeafGiven size rows keys store page s p leaf at cutoff held lent r built lent'
+        → TicketGiven (between (key_at (take (p.leaves * size + size - p.leaves * size) (drop (p.leaves * size) built)) (leaf.count - 1)) first) cutoff lent p.place p.separator r.place r.separator lent'
+        → LeafGiven size list store page s p leaf at cutoff held lent r built lent'
     a_leaf_is_given cutoff lent first r lent' k e t =
-        subst (λ (z : Progress). LeafGiven size rows keys store page s p leaf at cutoff held lent z built lent') (sym e)
-        (given cutoff lent r.place r.separator lent' (the_key_behind_matters_with_more (more_than p leaf) _ first (key_from s rows keys page at) cutoff lent p.place p.separator r.place r.separator lent' k' t))
-      where
-        k' : more_than p leaf ≡ true → first ≡ key_from s rows keys page at
-        k' m = k (eqb-false (p.left.count - leaf.count) 0 (not-true (eqb (p.left.count - leaf.count) 0) m))
+        let f : first ≡ first_key b = k ∙ sym (the_first_key_is_that_of_the_first_record list store page s h.kept at h.behind_in) in
+        subst (λ (z : Progress). LeafGiven size list store page s p leaf at cutoff held lent z built lent') (sym e) (given cutoff lent r.place r.separator lent' (rw f at t))
 
 -- ---- what is left
 

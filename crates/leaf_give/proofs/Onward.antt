@@ -1,6 +1,5 @@
 -- Leaf after leaf: what is in area and tickets once one more leaf is given out. Assumes nothing.
 use mathlib.Core.Path.{◌≡◌, refl, sym, ap, ap₂, ◌∙◌}
-use mathlib.Core.Option.{Option}
 use mathlib.Core.List.{List, [], ◌∷◌, ◌++◌, map}
 use Prim.Native.Nat.{ℕ, ◌+◌, ◌*◌, ◌≤◌}
 use native.Mathlib.Omega.{arith}
@@ -17,8 +16,8 @@ use Rattle.leaf_model.specs.Basics.{joined, nonempty}
 use Rattle.leaf_model.specs.Cut.{Cut, nothing_cut}
 use Rattle.leaf_model.specs.Work.{leaf_cutoff, next_separator, separator_after, leaves_by}
 use Rattle.leaf_model.proofs.Lists.{all_append}
+use Rattle.leaf_work.specs.declared.Entry.{Entry}
 use Rattle.leaf_work.specs.declared.Work.{Work}
-use Rattle.leaf_work.specs.Tests.{is_set, key_if}
 use Rattle.leaf_work.specs.Lent.{cutoff_of, separator_of}
 use Rattle.leaf_work.specs.Digest.{tickets_of, overwrite}
 use Rattle.leaf_cut.specs.declared.Gauge.{Gauge}
@@ -53,18 +52,18 @@ pages_long size (cons {x = l} {xs = ls} f fs) = omega (arith, length-append (bui
 
 -- ---- the row of leaves
 
-module _ (size : ℕ) (w : Work) (rows keys : List (List ℕ)) (store page area tickets : List ℕ) (g : Gives size w rows keys store page area tickets) where
-  spread : Spread rows page (span_of w page)
-  spread = what_is_ready_is_spread w rows keys store page g.ready
+module _ (size : ℕ) (w : Work) (list : List Entry) (store page area tickets : List ℕ) (g : Gives size w list store page area tickets) where
+  spread : Spread list page (span_of w)
+  spread = what_is_ready_is_spread w list store page g.ready
 
-  first_in : CursorIn rows page (span_of w page) first_cursor
+  first_in : CursorIn list page (span_of w) first_cursor
   first_in = record {
     entry_in = omega arith;
-    skip_in = λ l. an_entry_has_a_record page _ (span_of w page) (spread.entries 0 l) spread.rest;
+    skip_in = λ l. an_entry_has_a_record page _ (span_of w) (spread.entries 0 l) spread.rest;
     rest_in = λ e. omega (arith, spread.rest.low_in);
   }
 
-  pub no_leaf_is_given_yet : (p : Progress) → Begun size w rows keys store page p → Along size w rows keys store page area tickets (nothing_cut (pending size w rows keys store page)) p area tickets
+  pub no_leaf_is_given_yet : (p : Progress) → Begun size w list store page p → Along size w list store page area tickets (nothing_cut (pending size w list store page)) p area tickets
   no_leaf_is_given_yet p b = record {
     area_is = refl;
     tickets_are = refl;
@@ -72,18 +71,17 @@ module _ (size : ℕ) (w : Work) (rows keys : List (List ℕ)) (store page area 
     place_is = b.place_is;
     short = omega (arith, b.place_is);
     there = rw b.at_is first_in;
-    left_is = ap (records_from (span_of w page) rows keys store page) b.at_is ∙ all_records_are_pending w rows keys store page;
+    left_is = ap (records_from (span_of w) list store page) b.at_is ∙ all_records_are_pending w list store page;
     count_is = b.count_is;
     bytes_is = b.bytes_is;
     separator_is = b.separator_is;
-    long = b.long;
     whole = refl;
     fits = nil;
   }
 
-  module _ (c : Cut) (p : Progress) (a t : List ℕ) (o : Along size w rows keys store page area tickets c p a t) where
+  module _ (c : Cut) (p : Progress) (a t : List ℕ) (o : Along size w list store page area tickets c p a t) where
     -- room for one more
-    module _ (few : length c.leaves + 1 ≤ pages_asked size (body (pending size w rows keys store page))) where
+    module _ (few : length c.leaves + 1 ≤ pages_asked size (body (pending size w list store page))) where
       page_room_lem : length c.leaves * size + size ≤ length area
       page_room_lem = omega (arith, mul-le-mul_right size few, g.area_room)
 
@@ -100,39 +98,36 @@ module _ (size : ℕ) (w : Work) (rows keys : List (List ℕ)) (store page area 
           omega (arith, l, r)
 
     -- one more
-    module _ (leaf : Gauge) (at : Cursor) (h : LeafThere size rows keys store page (span_of w page) p leaf at (length a) (length t)) (k : List ℕ) (e : k ≡ w.cutoff) (r : Progress) (a' t' : List ℕ)
-        (m : LeafGiven size rows keys store page (span_of w page) p leaf at (key_if (is_set w.cut) k) a t r a' t') where
+    module _ (leaf : Gauge) (at : Cursor) (h : LeafThere size list store page (span_of w) p leaf at (length a) (length t)) (r : Progress) (a' t' : List ℕ)
+        (m : LeafGiven size list store page (span_of w) p leaf at (cutoff_of w) a t r a' t') where
       abbrev l : List Record
-      l = taken size rows keys store page (span_of w page) p leaf at
+      l = taken size list store page (span_of w) p leaf at
 
       abbrev b : List Record
-      b = behind size rows keys store page (span_of w page) p leaf at
+      b = behind size list store page (span_of w) p leaf at
 
       abbrev pub further : Cut
-      further = record { leaves = c.leaves ++ (taken size rows keys store page (span_of w page) p leaf at ∷ []); left = behind size rows keys store page (span_of w page) p leaf at }
+      further = record { leaves = c.leaves ++ (taken size list store page (span_of w) p leaf at ∷ []); left = behind size list store page (span_of w) p leaf at }
 
       left_parts : c.left ≡ l ++ b
-      left_parts = sym o.left_is ∙ both size rows keys store page (span_of w page) p leaf at (length a) (length t) h
-
-      cutoff_is : key_if (is_set w.cut) k ≡ cutoff_of w
-      cutoff_is = ap (key_if (is_set w.cut)) e
+      left_parts = sym o.left_is ∙ both size list store page (span_of w) p leaf at (length a) (length t) h
 
       separator_was : p.separator ≡ separator_after (separator_of w) c.leaves (l ++ b)
       separator_was = o.separator_is ∙ ap (separator_after (separator_of w) c.leaves) left_parts
 
       abbrev ticket : List ℕ
-      ticket = packed_with p.separator (leaf_cutoff l b (key_if (is_set w.cut) k))
+      ticket = packed_with p.separator (leaf_cutoff l b (cutoff_of w))
 
       more_tickets : tickets_of (leaves_by (separator_of w) (cutoff_of w) further) ≡ tickets_of (leaves_by (separator_of w) (cutoff_of w) c) ++ ticket
       more_tickets =
           one_more_ticket l b (cutoff_of w) (nonempty b) (nonempty (l ++ b)) (separator_of w) c.leaves
           ∙ ap₂ (λ (x : List Record) (y : List ℕ). tickets_of (leaves_by (separator_of w) (cutoff_of w) (record { leaves = c.leaves; left = x })) ++ y) (sym left_parts)
-          (ap₂ (λ (x : List ℕ) (y : Option (List ℕ)). packed_with x (leaf_cutoff l b y)) (sym separator_was) (sym cutoff_is))
+          (ap (λ (x : List ℕ). packed_with x (leaf_cutoff l b (cutoff_of w))) (sym separator_was))
 
       more_pages : joined (map (build size) further.leaves) ≡ joined (map (build size) c.leaves) ++ build size l
       more_pages = one_more_page size c.leaves l
 
-      pub one_more_leaf_is_given : Along size w rows keys store page area tickets further r a' t'
+      pub one_more_leaf_is_given : Along size w list store page area tickets further r a' t'
       one_more_leaf_is_given = record {
         area_is =
             m.area_is
@@ -148,11 +143,10 @@ module _ (size : ℕ) (w : Work) (rows keys : List (List ℕ)) (store page area 
         place_is = omega (arith, m.place_is, o.place_is, ap length more_tickets, length-append (tickets_of (leaves_by (separator_of w) (cutoff_of w) c)) ticket);
         short = omega (arith, m.short, m.leaves_are, o.short);
         there = rw m.at_is h.behind_in;
-        left_is = ap (records_from (span_of w page) rows keys store page) m.at_is;
+        left_is = ap (records_from (span_of w) list store page) m.at_is;
         count_is = m.count_is;
         bytes_is = m.bytes_is;
         separator_is = m.separator_is ∙ ap (λ (x : List ℕ). next_separator x l b) separator_was ∙ sym (one_more_separator l b (separator_of w) c.leaves);
-        long = m.long;
         whole = followed l b c.leaves ∙ ap (λ (x : List Record). joined c.leaves ++ x) (sym left_parts) ∙ o.whole;
         fits = all_append o.fits (cons h.fits.fits nil);
       }

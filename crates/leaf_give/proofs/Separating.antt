@@ -1,23 +1,23 @@
 -- The separators and tickets of a row of leaves: what one more leaf adds to them. Assumes nothing.
 use mathlib.Core.Path.{◌≡◌, refl, sym, ap, ◌∙◌}
-use mathlib.Core.Bool.{Bool, true, false, not, cond}
+use mathlib.Core.Bool.{Bool, true, false}
 use mathlib.Core.Option.{Option, some}
 use mathlib.Core.List.{List, [], ◌∷◌, ◌++◌, append-nil, append_assoc, map}
 use Prim.Native.Nat.{ℕ}
 use native.Mathlib.Omega.{arith}
-use borrow.Author.Tests.{eq-eqb, ne_eqb, ltb-true}
-use lib.Dec.{eqb}
-use lib.ListN.{length}
+use borrow.Author.Tests.{ne_eqb, ltb-true}
 use Rattle.bit_ops.specs.Key.{num, lt_key, eq_key}
-use Rattle.bit_ops.specs.Separate.{separate_of}
+use Rattle.bit_ops.specs.Separate.{separate_of, separate_leaves}
 use Rattle.leaf_node.specs.Record.{Record}
 use Rattle.leaf_node.specs.Build.{build}
 use Rattle.leaf_node.specs.Ticket.{packed_with}
 use Rattle.leaf_model.specs.Basics.{joined, nonempty}
-use Rattle.leaf_model.specs.Work.{leaf_cutoff, next_separator, last_key, with_separators, separator_after, is_rising}
+use Rattle.leaf_model.specs.Work.{zero_key, or_else, leaf_cutoff, next_separator, last_key, with_separators, separator_after, is_rising}
 use Rattle.leaf_model.proofs.Tests.{and_left, and_right, clash}
 use Rattle.leaf_model.proofs.Lists.{joined_append}
 use Rattle.leaf_work.specs.Digest.{pages_of, tickets_of}
+use Rattle.leaf_write.specs.Filling.{first_key}
+use Rattle.leaf_give.specs.Steps.{between, first_of}
 
 -- ---- between a leaf and what follows it
 
@@ -31,17 +31,17 @@ the_next_key_is_above_a_leaf (x ∷ []) r rs n h = and_left (lt_key x.key r.key)
 the_next_key_is_above_a_leaf (x ∷ y ∷ ys) r rs n h =
     the_next_key_is_above_a_leaf (y ∷ ys) r rs refl (and_right (lt_key x.key y.key) (is_rising ((y ∷ ys) ++ (r ∷ rs))) h)
 
--- by how many records follow
-module _ (l : List Record) (between : List ℕ) where
-  pub the_cutoff_of_a_leaf : (cutoff : Option (List ℕ)) (b : List Record) (n : ℕ) → n ≡ length b → ((r : Record) (rs : List Record) → b ≡ r ∷ rs → between ≡ separate_of (last_key l) r.key)
-      → cond (not (eqb n 0)) (some between) cutoff ≡ leaf_cutoff l b cutoff
-  the_cutoff_of_a_leaf cutoff [] n e f = rw (eq-eqb n 0 e)
-  the_cutoff_of_a_leaf cutoff (r ∷ rs) n e f = rw (ne_eqb n 0 (λ (z : n ≡ 0). omega arith)) (ap some (f r rs refl))
+-- by the first of the records that follow
+module _ (l : List Record) (last : List ℕ) where
+  pub the_cutoff_of_a_leaf : (cutoff : Option (List ℕ)) (b : List Record) → ((r : Record) (rs : List Record) → b ≡ r ∷ rs → separate_leaves last r.key zero_key ≡ separate_of (last_key l) r.key)
+      → first_of (between last (first_key b)) cutoff ≡ leaf_cutoff l b cutoff
+  the_cutoff_of_a_leaf cutoff [] f = refl
+  the_cutoff_of_a_leaf cutoff (r ∷ rs) f = ap some (f r rs refl)
 
-  pub the_separator_behind_a_leaf : (s : List ℕ) (b : List Record) (n : ℕ) → n ≡ length b → ((r : Record) (rs : List Record) → b ≡ r ∷ rs → between ≡ separate_of (last_key l) r.key)
-      → cond (not (eqb n 0)) between s ≡ next_separator s l b
-  the_separator_behind_a_leaf s [] n e f = rw (eq-eqb n 0 e)
-  the_separator_behind_a_leaf s (r ∷ rs) n e f = rw (ne_eqb n 0 (λ (z : n ≡ 0). omega arith)) (f r rs refl)
+  pub the_separator_behind_a_leaf : (s : List ℕ) (b : List Record) → ((r : Record) (rs : List Record) → b ≡ r ∷ rs → separate_leaves last r.key zero_key ≡ separate_of (last_key l) r.key)
+      → or_else (between last (first_key b)) s ≡ next_separator s l b
+  the_separator_behind_a_leaf s [] f = refl
+  the_separator_behind_a_leaf s (r ∷ rs) f = f r rs refl
 
 -- ---- one more leaf
 

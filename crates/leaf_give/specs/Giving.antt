@@ -6,9 +6,9 @@ use Rattle.leaf_node.specs.Page.{count, values_size}
 use Rattle.leaf_node.specs.Fits.{All, Keyed, Fitting}
 use Rattle.leaf_model.specs.Cut.{Cut}
 use Rattle.leaf_model.specs.Work.{Leaf, is_rising, plan, separator_after, leaves_by}
+use Rattle.leaf_work.specs.declared.Entry.{Entry}
 use Rattle.leaf_work.specs.declared.Work.{Work}
 use Rattle.leaf_work.specs.Lent.{cutoff_of, separator_of}
-use Rattle.leaf_work.specs.Flat.{list_of}
 use Rattle.leaf_work.specs.Pending.{pending_of}
 use Rattle.leaf_work.specs.Ready.{Ready}
 use Rattle.leaf_work.specs.Digest.{pages_of, tickets_of, overwrite}
@@ -16,10 +16,10 @@ use Rattle.leaf_cut.specs.Records.{span_of, records_from}
 use Rattle.leaf_cut.specs.Steps.{CursorIn}
 use Rattle.leaf_give.specs.declared.Progress.{Progress}
 
-module _ (size : ℕ) (w : Work) (rows keys : List (List ℕ)) (store page : List ℕ) where
+module _ (size : ℕ) (w : Work) (list : List Entry) (store page : List ℕ) where
   -- all that is pending
   abbrev pub pending : List Record
-  pending = pending_of w (list_of rows keys) store page
+  pending = pending_of w list store page
 
   -- steps 1 to 4: the leaves that are cut, and the records that are kept
   abbrev pub planned : Cut
@@ -32,7 +32,7 @@ module _ (size : ℕ) (w : Work) (rows keys : List (List ℕ)) (store page : Lis
   -- a work whose lent things earn no refusal, with room for its leaves
   pub record Gives (area tickets : List ℕ) : Type 0 where
     pub sized : PageSize size
-    pub ready : Ready w (list_of rows keys) store page
+    pub ready : Ready w list store page
     pub keyed : All Keyed pending
     pub fitting : All (Fitting size) pending
     pub rise : is_rising pending ≡ true
@@ -47,8 +47,8 @@ module _ (size : ℕ) (w : Work) (rows keys : List (List ℕ)) (store page : Lis
     pub tickets_are : tickets' ≡ overwrite (tickets_of leaves) tickets
     pub leaves_are : p.leaves ≡ length planned.leaves
     pub place_is : p.place ≡ length (tickets_of leaves)
-    pub there : CursorIn rows page (span_of w page) p.at
-    pub left_is : records_from (span_of w page) rows keys store page p.at ≡ planned.left
+    pub there : CursorIn list page (span_of w) p.at
+    pub left_is : records_from (span_of w) list store page p.at ≡ planned.left
     pub count_is : p.left.count ≡ length planned.left
     pub bytes_is : p.left.bytes ≡ total planned.left
     pub separator_is : p.separator ≡ separator_after (separator_of w) planned.leaves planned.left

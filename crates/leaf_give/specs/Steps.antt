@@ -1,6 +1,8 @@
 -- One leaf given out, and a row of them: what is required, and what is left behind. `page` is the page as the work regards it.
-use Rattle.std.specs.Prelude.{◌≡◌, Bool, true, not, cond, List, ◌++◌, map, ℕ, ◌+◌, ◌-◌, ◌*◌, ◌^◌, ◌≤◌, ◌<◌, eqb, length, take, drop}
-use Rattle.std.proofs.Math.Option.{Option, some}
+use Rattle.std.specs.Prelude.{◌≡◌, true, List, ◌++◌, map, ℕ, ◌+◌, ◌-◌, ◌*◌, ◌^◌, ◌≤◌, ◌<◌, length, take, drop}
+use Rattle.std.proofs.Math.Option.{Option, none, some}
+use Rattle.bit_ops.specs.Separate.{separate_leaves}
+use Rattle.leaf_node.specs.Limits.{body_limit}
 use Rattle.leaf_node.specs.Record.{Record, total}
 use Rattle.leaf_node.specs.Page.{pointer, values_size}
 use Rattle.leaf_node.specs.Build.{put, build}
@@ -8,14 +10,15 @@ use Rattle.leaf_node.specs.Ticket.{packed_with}
 use Rattle.leaf_node.specs.Fits.{All, Fits}
 use Rattle.leaf_model.specs.Basics.{joined}
 use Rattle.leaf_model.specs.Cut.{Cut, target_of}
-use Rattle.leaf_model.specs.Work.{leaf_cutoff, next_separator, is_rising, separator_after, leaves_by}
+use Rattle.leaf_model.specs.Work.{zero_key, or_else, leaf_cutoff, next_separator, is_rising, separator_after, leaves_by}
+use Rattle.leaf_work.specs.declared.Entry.{Entry}
 use Rattle.leaf_work.specs.declared.Work.{Work}
 use Rattle.leaf_work.specs.Lent.{cutoff_of, separator_of}
 use Rattle.leaf_work.specs.Digest.{tickets_of, overwrite}
 use Rattle.leaf_cut.specs.declared.Gauge.{Gauge}
+use Rattle.leaf_cut.specs.declared.Aim.{Aim}
 use Rattle.leaf_cut.specs.declared.Span.{Span}
 use Rattle.leaf_cut.specs.declared.Cursor.{Cursor}
-use Rattle.leaf_cut.specs.Sizes.{target_in}
 use Rattle.leaf_cut.specs.Records.{span_of, first_cursor, records_from}
 use Rattle.leaf_cut.specs.Steps.{CursorIn, Kept}
 use Rattle.leaf_write.specs.Filling.{LeafFits}
@@ -24,10 +27,6 @@ use Rattle.leaf_give.specs.declared.Beginning.{Beginning}
 use Rattle.leaf_give.specs.Giving.{pending}
 
 -- ---- a ticket
-
--- whether records are left behind a leaf
-abbrev pub more_than : Progress → Gauge → Bool
-more_than p leaf = not (eqb (p.left.count - leaf.count) 0)
 
 -- how far a digest has come with a leaf, up to the cursor `at`
 abbrev pub progress_of : Progress → Gauge → Cursor → ℕ → List ℕ → Progress
@@ -42,34 +41,42 @@ pub record TicketAsked (p : Progress) (leaf : Gauge) (built tickets : ℕ) : Typ
   pub last : pointer (leaf.count - 1 + 1) ≤ built
   pub room : p.place + 65 ≤ tickets
   pub few : p.leaves + 1 < 2 ^ 64
-  pub long : length p.separator ≡ 32
 
--- A leaf with this separator got its ticket at byte `place`. With `more` there are records behind it, and `between` separates them from the leaf.
-pub record TicketGiven (more : Bool) (between : List ℕ) (cutoff : Option (List ℕ)) (tickets : List ℕ) (place : ℕ) (separator : List ℕ) (next : ℕ) (separator' tickets' : List ℕ) : Type 0 where
-  pub tickets_are : tickets' ≡ put tickets place (packed_with separator (cond more (some between) cutoff))
-  pub place_is : next ≡ place + length (packed_with separator (cond more (some between) cutoff))
+-- what separates a leaf, by its last key, from the records behind it, by the first key of these, where there are any
+abbrev pub between : List ℕ → Option (List ℕ) → Option (List ℕ)
+between last none = none
+between last (some first) = some (separate_leaves last first zero_key)
+
+-- the first of two keys that is there
+abbrev pub first_of : Option (List ℕ) → Option (List ℕ) → Option (List ℕ)
+first_of (some k) other = some k
+first_of none other = other
+
+-- A leaf with this separator got its ticket at byte `place`. `between` separates it from the records behind it, where there are any.
+pub record TicketGiven (between cutoff : Option (List ℕ)) (tickets : List ℕ) (place : ℕ) (separator : List ℕ) (next : ℕ) (separator' tickets' : List ℕ) : Type 0 where
+  pub tickets_are : tickets' ≡ put tickets place (packed_with separator (first_of between cutoff))
+  pub place_is : next ≡ place + length (packed_with separator (first_of between cutoff))
   pub short : next ≤ place + 65
-  pub separator_is : separator' ≡ cond more between separator
-  pub long : length separator' ≡ 32
+  pub separator_is : separator' ≡ or_else between separator
 
 -- ---- one leaf, behind which stands the cursor `at`
 
-module _ (size : ℕ) (rows keys : List (List ℕ)) (store page : List ℕ) (s : Span) (p : Progress) (leaf : Gauge) (at : Cursor) where
+module _ (size : ℕ) (list : List Entry) (store page : List ℕ) (s : Span) (p : Progress) (leaf : Gauge) (at : Cursor) where
   -- what the leaf is taken off, the leaf, and what remains
   abbrev pub before : List Record
-  before = records_from s rows keys store page p.at
+  before = records_from s list store page p.at
 
   abbrev pub taken : List Record
   taken = take leaf.count before
 
   abbrev pub behind : List Record
-  behind = records_from s rows keys store page at
+  behind = records_from s list store page at
 
   -- area and tickets have these lengths
   pub record LeafThere (area tickets : ℕ) : Type 0 where
-    pub kept : Kept rows keys store page s
-    pub from_in : CursorIn rows page s p.at
-    pub behind_in : CursorIn rows page s at
+    pub kept : Kept list store page s
+    pub from_in : CursorIn list page s p.at
+    pub behind_in : CursorIn list page s at
     pub fits : LeafFits size leaf before
     pub rest : drop leaf.count before ≡ behind
     pub some_record : 0 < leaf.count
@@ -78,7 +85,6 @@ module _ (size : ℕ) (rows keys : List (List ℕ)) (store page : List ℕ) (s :
     pub bytes_is : p.left.bytes ≡ total before
     pub page_room_lem : p.leaves * size + size ≤ area
     pub ticket_room : p.place + 65 ≤ tickets
-    pub long : length p.separator ≡ 32
 
   pub record LeafGiven (cutoff : Option (List ℕ)) (area tickets : List ℕ) (r : Progress) (area' tickets' : List ℕ) : Type 0 where
     pub area_is : area' ≡ put area (p.leaves * size) (build size taken)
@@ -88,13 +94,12 @@ module _ (size : ℕ) (rows keys : List (List ℕ)) (store page : List ℕ) (s :
     pub place_is : r.place ≡ p.place + length (packed_with p.separator (leaf_cutoff taken behind cutoff))
     pub short : r.place ≤ p.place + 65
     pub separator_is : r.separator ≡ next_separator p.separator taken behind
-    pub long : length r.separator ≡ 32
     pub count_is : r.left.count ≡ length behind
     pub bytes_is : r.left.bytes ≡ total behind
 
 -- ---- leaf after leaf
 
-module _ (size : ℕ) (w : Work) (rows keys : List (List ℕ)) (store page area tickets : List ℕ) where
+module _ (size : ℕ) (w : Work) (list : List Entry) (store page area tickets : List ℕ) where
   -- the leaves of c have been given out, and what it leaves stands behind the cursor
   pub record Along (c : Cut) (p : Progress) (area' tickets' : List ℕ) : Type 0 where
     pub area_is : area' ≡ overwrite (joined (map (build size) c.leaves)) area
@@ -102,26 +107,24 @@ module _ (size : ℕ) (w : Work) (rows keys : List (List ℕ)) (store page area 
     pub leaves_are : p.leaves ≡ length c.leaves
     pub place_is : p.place ≡ length (tickets_of (leaves_by (separator_of w) (cutoff_of w) c))
     pub short : p.place ≤ p.leaves * 65
-    pub there : CursorIn rows page (span_of w page) p.at
-    pub left_is : records_from (span_of w page) rows keys store page p.at ≡ c.left
+    pub there : CursorIn list page (span_of w) p.at
+    pub left_is : records_from (span_of w) list store page p.at ≡ c.left
     pub count_is : p.left.count ≡ length c.left
     pub bytes_is : p.left.bytes ≡ total c.left
     pub separator_is : p.separator ≡ separator_after (separator_of w) c.leaves c.left
-    pub long : length p.separator ≡ 32
-    pub whole : joined c.leaves ++ c.left ≡ pending size w rows keys store page
+    pub whole : joined c.leaves ++ c.left ≡ pending size w list store page
     pub fits : All (Fits size) c.leaves
 
 -- ---- where giving begins
 
-module _ (size : ℕ) (w : Work) (rows keys : List (List ℕ)) (store page : List ℕ) where
+module _ (size : ℕ) (w : Work) (list : List Entry) (store page : List ℕ) where
   pub record Begun (p : Progress) : Type 0 where
     pub at_is : p.at ≡ first_cursor
     pub leaves_are : p.leaves ≡ 0
     pub place_is : p.place ≡ 0
-    pub count_is : p.left.count ≡ length (pending size w rows keys store page)
-    pub bytes_is : p.left.bytes ≡ total (pending size w rows keys store page)
+    pub count_is : p.left.count ≡ length (pending size w list store page)
+    pub bytes_is : p.left.bytes ≡ total (pending size w list store page)
     pub separator_is : p.separator ≡ separator_of w
-    pub long : length p.separator ≡ 32
 
 -- what the list has
 abbrev pub listed_in : Work → Gauge
@@ -135,5 +138,10 @@ module _ (size : ℕ) (w : Work) (page : List ℕ) (n : ℕ) where
     pub count_is : b.start.left.count ≡ w.count + (n - w.low)
     pub bytes_is : b.start.left.bytes ≡ w.bytes + values_size page w.low n
     pub separator_is : b.start.separator ≡ separator_of w
-    pub long : length b.start.separator ≡ 32
-    pub target_is : target_in b.target ≡ target_of size (34 * b.start.left.count + b.start.left.bytes)
+    pub target_is : b.target ≡ target_of size (34 * b.start.left.count + b.start.left.bytes)
+
+-- ---- cutting
+
+-- what a leaf aims at in a page of so many bytes
+abbrev pub aim_of : ℕ → ℕ → Aim
+aim_of size target = record { target = target; limit = body_limit size }

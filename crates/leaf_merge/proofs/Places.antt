@@ -9,12 +9,12 @@ use lib.ListN.{length, get_or, take, length-append}
 use lib.Seq.{take-append-add}
 use borrow.Author.Tests.{eq-eqb, eqb-true}
 use Rattle.leaf_node.specs.Record.{Record, total}
+use Rattle.leaf_work.specs.Lent.{blank}
 use Rattle.leaf_work.specs.declared.Entry.{Entry}
-use Rattle.leaf_work.specs.Flat.{entry_of, entries_of}
 use Rattle.leaf_work.specs.Lent.{an_insert}
 use Rattle.leaf_work.specs.Sound.{placed}
 use Rattle.leaf_work.specs.Ready.{EntryIn}
-use Rattle.leaf_cut.specs.Sizes.{sizes, sum, row_sizes, listed_sizes}
+use Rattle.leaf_cut.specs.Sizes.{sizes, sum, entry_sizes, listed_sizes}
 use Rattle.leaf_cut.specs.declared.Span.{Span}
 use Rattle.leaf_cut.specs.Steps.{Spread}
 use Rattle.leaf_cut.proofs.Cursors.{one_more_entry}
@@ -33,23 +33,23 @@ sum_append [] ys = omega arith
 sum_append (x ∷ xs) ys = omega (arith, sum_append xs ys)
 
 -- the first entries' sizes come first
-pub listed_prefix : (page : List ℕ) (j used : ℕ) (rows : List (List ℕ)) (tail : List ℕ) → j ≤ used → take (length (listed_sizes page j rows)) (listed_sizes page used rows ++ tail) ≡ listed_sizes page j rows
+pub listed_prefix : (page : List ℕ) (j used : ℕ) (list : List Entry) (tail : List ℕ) → j ≤ used → take (length (listed_sizes page j list)) (listed_sizes page used list ++ tail) ≡ listed_sizes page j list
 unfolding listed_sizes
-listed_prefix page zero used rows tail h = refl
-listed_prefix page (suc j) zero rows tail h = absurd (omega arith)
+listed_prefix page zero used list tail h = refl
+listed_prefix page (suc j) zero list tail h = absurd (omega arith)
 listed_prefix page (suc j) (suc used) [] tail h = refl
 listed_prefix page (suc j) (suc used) (r ∷ rs) tail h =
-    let x : List ℕ = row_sizes page r in
+    let x : List ℕ = entry_sizes page r in
     rw (length-append x (listed_sizes page j rs), append_assoc x (listed_sizes page used rs) tail, take-append-add x (listed_sizes page used rs ++ tail) (length (listed_sizes page j rs)), listed_prefix page j used rs tail (omega arith))
 
-pub an_entry_has_no_less_than_one_record : (rows : List (List ℕ)) (page : List ℕ) (s : Span) → Spread rows page s → (i : ℕ) → i ≤ s.used → i ≤ length (listed_sizes page i rows)
-an_entry_has_no_less_than_one_record rows page s h zero k = omega arith
-an_entry_has_no_less_than_one_record rows page s h (suc i) k =
+pub an_entry_has_no_less_than_one_record : (list : List Entry) (page : List ℕ) (s : Span) → Spread list page s → (i : ℕ) → i ≤ s.used → i ≤ length (listed_sizes page i list)
+an_entry_has_no_less_than_one_record list page s h zero k = omega arith
+an_entry_has_no_less_than_one_record list page s h (suc i) k =
     omega (
       arith,
-      an_entry_has_no_less_than_one_record rows page s h i (omega arith),
-      one_more_entry page i rows (omega (arith, h.used_in)),
-      an_entry_has_a_record page (get_or rows i []) s (h.entries i (omega arith)) h.rest,
+      an_entry_has_no_less_than_one_record list page s h i (omega arith),
+      one_more_entry page i list (omega (arith, h.used_in)),
+      an_entry_has_a_record page (get_or list i blank) s (h.entries i (omega arith)) h.rest,
     )
 
 -- ---- places
@@ -66,26 +66,25 @@ module _ (end at : ℕ) (e : Entry) (es : List Entry) where
   placed_chunk i h = rw (i, placed) at h
 
 module _ (page : List ℕ) (end low filled : ℕ) where
-  insert_sum : (row key : List ℕ) → EntryIn low filled (entry_of row key) → eqb (get_or row 0 0) 1 ≡ true → get_or row 3 0 ≡ get_or row 2 0 + sum (row_sizes page row)
-  unfolding row_sizes sum
-  insert_sum row key h i = rw i (omega (arith, (h.insert (eqb-true _ _ i)).0))
+  insert_sum : (entry : Entry) → EntryIn low filled entry → eqb entry.kind 1 ≡ true → entry.to ≡ entry.from + sum (entry_sizes page entry)
+  unfolding entry_sizes sum
+  insert_sum entry h i = rw i (omega (arith, (h.insert (eqb-true _ _ i)).0))
 
-  pub a_listed_value_ends_below_the_sum : (i used at : ℕ) (rows keys : List (List ℕ)) → length rows ≡ length keys → i < used → used ≤ length rows
-      → ((j : ℕ) → j < used → EntryIn low filled (entry_of (get_or rows j []) (get_or keys j []))) → placed end at (take used (entries_of rows keys)) ≡ true
-      → get_or (get_or rows i []) 0 0 ≡ 1 → get_or (get_or rows i []) 3 0 ≤ at + sum (listed_sizes page (suc i) rows)
+  pub a_listed_value_ends_below_the_sum : (i used at : ℕ) (list : List Entry) → i < used → used ≤ length list
+      → ((j : ℕ) → j < used → EntryIn low filled (get_or list j blank)) → placed end at (take used list) ≡ true
+      → (get_or list i blank).kind ≡ 1 → (get_or list i blank).to ≤ at + sum (listed_sizes page (suc i) list)
   unfolding listed_sizes
-  a_listed_value_ends_below_the_sum i zero at rows keys l h u n p o = absurd (omega arith)
-  a_listed_value_ends_below_the_sum i (suc used) at [] keys l h u n p o = absurd (omega arith)
-  a_listed_value_ends_below_the_sum i (suc used) at (r ∷ rs) [] l h u n p o = absurd (omega arith)
-  a_listed_value_ends_below_the_sum zero (suc used) at (r ∷ rs) (k ∷ ks) l h u n p o =
-      let t : eqb (get_or r 0 0) 1 ≡ true = eq-eqb (get_or r 0 0) 1 o in
-      let d = placed_insert end at (entry_of r k) (take used (entries_of rs ks)) t p in
-      omega (arith, d.0, insert_sum r k (n 0 (omega arith)) t, sum_append (row_sizes page r) [])
-  a_listed_value_ends_below_the_sum (suc i) (suc used) at (r ∷ rs) (k ∷ ks) l h u n p o = go (eqb (get_or r 0 0) 1) refl (λ a q. a_listed_value_ends_below_the_sum i used a rs ks (omega arith) (omega arith) (omega arith) (λ j m. n (suc j) (omega arith)) q o)
+  a_listed_value_ends_below_the_sum i zero at list h u n p o = absurd (omega arith)
+  a_listed_value_ends_below_the_sum i (suc used) at [] h u n p o = absurd (omega arith)
+  a_listed_value_ends_below_the_sum zero (suc used) at (e ∷ es) h u n p o =
+      let t : eqb e.kind 1 ≡ true = eq-eqb e.kind 1 o in
+      let d = placed_insert end at e (take used es) t p in
+      omega (arith, d.0, insert_sum e (n 0 (omega arith)) t, sum_append (entry_sizes page e) [])
+  a_listed_value_ends_below_the_sum (suc i) (suc used) at (e ∷ es) h u n p o = go (eqb e.kind 1) refl (λ a q. a_listed_value_ends_below_the_sum i used a es (omega arith) (omega arith) (λ j m. n (suc j) (omega arith)) q o)
     where
-      go : (b : Bool) → eqb (get_or r 0 0) 1 ≡ b → ((a : ℕ) → placed end a (take used (entries_of rs ks)) ≡ true → get_or (get_or rs i []) 3 0 ≤ a + sum (listed_sizes page (suc i) rs))
-          → get_or (get_or rs i []) 3 0 ≤ at + sum (row_sizes page r ++ listed_sizes page (suc i) rs)
+      go : (b : Bool) → eqb e.kind 1 ≡ b → ((a : ℕ) → placed end a (take used es) ≡ true → (get_or es i blank).to ≤ a + sum (listed_sizes page (suc i) es))
+          → (get_or es i blank).to ≤ at + sum (entry_sizes page e ++ listed_sizes page (suc i) es)
       go true t ih =
-          let d = placed_insert end at (entry_of r k) (take used (entries_of rs ks)) t p in
-          omega (arith, d.0, insert_sum r k (n 0 (omega arith)) t, ih (get_or r 3 0) d.1, sum_append (row_sizes page r) (listed_sizes page (suc i) rs))
-      go false t ih = omega (arith, ih at (placed_chunk end at (entry_of r k) (take used (entries_of rs ks)) t p), sum_append (row_sizes page r) (listed_sizes page (suc i) rs))
+          let d = placed_insert end at e (take used es) t p in
+          omega (arith, d.0, insert_sum e (n 0 (omega arith)) t, ih e.to d.1, sum_append (entry_sizes page e) (listed_sizes page (suc i) es))
+      go false t ih = omega (arith, ih at (placed_chunk end at e (take used es) t p), sum_append (entry_sizes page e) (listed_sizes page (suc i) es))

@@ -1,10 +1,10 @@
--- Loops that write a list from an index on, forwards: elements moved down to the start, and one value behind them. Assumes nothing.
+-- Elements moved down to the start, by a loop that writes a list from an index on, forwards; and what is cleared behind them. Assumes nothing.
 use mathlib.Core.Path.{◌≡◌, refl, sym, ap, ◌∙◌}
 use mathlib.Core.List.{List, ◌++◌, append-nil}
 use Prim.Native.Nat.{ℕ, suc, ◌+◌, ◌-◌, ◌≤◌, ◌<◌}
 use native.Mathlib.Omega.{arith}
 use native.Mathlib.Numerals.{add-one}
-use lib.ListN.{length, get_or, set, take, drop, replicate, length-set, length-append, length-drop, length-replicate, get_or-replicate, take-append-drop, drop_of_length-le}
+use lib.ListN.{length, get_or, set, take, drop, replicate, length-set, length-append, length-drop, length-replicate, drop_of_length-le}
 use lib.Seq.{length-take-le, take-suc, take_all, take_at, drop-cons, get_or-append-add, get_or-drop, set_at, append_snoc}
 use Rattle.bit_ops.specs.Steps.{zeros}
 use Rattle.leaf_node.specs.Build.{put}
@@ -62,50 +62,6 @@ module _ {A : Type 0} (before : List A) (count from : ℕ) (room : count ≤ len
             let a : from + i ≡ length (take i (drop from before)) + from = omega (arith, l) in
             let b : i + from ≡ from + i = omega arith in
             rw (m.laid.holds, a, get_or-append-add (take i (drop from before)) (drop i before) from z, get_or-drop i before from z, get_or-drop from before i z, b)
-
--- ---- one value behind
-
-pub record Clearing {A : Type 0} (z : A) (before : List A) (from : ℕ) (now : List A) (i : ℕ) : Type 0 where
-  pub upto : i ≤ length before
-  pub above : from ≤ i
-  pub laid : Overlaid (cleared z before from) before now i
-
-module _ {A : Type 0} (z : A) (before : List A) (from : ℕ) (room : from ≤ length before) where
-  cleared_long : length (cleared z before from) ≡ length before
-  unfolding cleared
-  cleared_long = simp (length-append, length-replicate) (omega (arith, length-take-le from before room))
-
-  cleared_at : (i : ℕ) → from ≤ i → i < length before → get_or (cleared z before from) i z ≡ z
-  unfolding cleared
-  cleared_at i h k =
-      let l : length (take from before) ≡ from = length-take-le from before room in
-      let e : i ≡ length (take from before) + (i - from) = omega (arith, l) in
-      rw e (get_or-append-add (take from before) (replicate (length before - from) z) (i - from) z ∙ get_or-replicate (length before - from) (i - from) z z (omega arith))
-
-  pub none_is_cleared : Clearing z before from before from
-  none_is_cleared = record {
-    upto = room;
-    above = omega arith;
-    laid = record {
-      size = refl;
-      holds = unfold cleared in rw (take_at (take from before) (replicate (length before - from) z) from (length-take-le from before room)) (sym (take-append-drop from before));
-    };
-  }
-
-  module _ (now : List A) (i : ℕ) (m : Clearing z before from now i) where
-    pub one_more_is_cleared : i < length now → Clearing z before from (set now i z) (i + 1)
-    one_more_is_cleared h = record {
-      upto = omega (arith, m.laid.size);
-      above = omega (arith, m.above);
-      laid =
-          let l : i < length before = omega (arith, m.laid.size) in
-          rw (add-one i) (overlaid_more z (cleared z before from) before now i m.laid (omega (arith, cleared_long)) (omega (arith, cleared_long)) z (sym (cleared_at i m.above l)));
-    }
-
-    pub all_are_cleared : length now ≤ i → now ≡ cleared z before from
-    all_are_cleared h =
-        let e : length before ≤ i = omega (arith, m.laid.size) in
-        m.laid.holds ∙ rw (take_all i (cleared z before from) (omega (arith, cleared_long)), drop_of_length-le before {i = i} e) (append-nil (cleared z before from))
 
 -- ---- both
 

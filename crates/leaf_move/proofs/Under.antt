@@ -1,11 +1,11 @@
 -- New elements in the places right below an index: what they leave as it was, and how they come one below the other. Assumes nothing.
-use mathlib.Core.Path.{◌≡◌, refl, sym, ap, ◌∙◌}
+use mathlib.Core.Path.{◌≡◌, sym, ap, ◌∙◌}
 use mathlib.Core.List.{List, [], ◌∷◌, ◌++◌, append_assoc}
-use Prim.Native.Nat.{ℕ, suc, ◌+◌, ◌-◌, ◌≤◌, ◌<◌}
+use Prim.Native.Nat.{ℕ, ◌+◌, ◌-◌, ◌≤◌, ◌<◌}
 use native.Mathlib.Omega.{arith}
 use native.Mathlib.Numerals.{add-one}
-use lib.ListN.{length, get_or, set, take, drop, length-set, length-append, length-drop, take-append-drop}
-use lib.Seq.{length-take-le, take-append-le, take-take, drop_at, drop-cons, get_or-take, set_split}
+use lib.ListN.{length, get_or, set, take, drop, length-append, length-drop, take-append-drop}
+use lib.Seq.{length-take-le, take-append-le, take-take, drop_at, get_or-take, set_split}
 use Rattle.leaf_node.specs.Build.{put}
 use Rattle.leaf_builder.proofs.Putting.{take_drop}
 use Rattle.leaf_move.specs.Moving.{under}
@@ -52,59 +52,6 @@ module _ {A : Type 0} where
       let e : i + 1 - 1 ≡ i = omega arith in
       set_split xs i x h ∙ sym (under_is xs (i + 1) (x ∷ []) ∙ rw (e, add-one i))
 
-  -- one more, right below
-  pub set_under : (xs : List A) (t : ℕ) (s : List A) (i : ℕ) (x : A) → i + 1 ≡ t - length s → length s < t → t ≤ length xs → set (under xs t s) i x ≡ under xs t (x ∷ s)
-  set_under xs t s i x e h k =
-      under_one (under xs t s) i x (omega (arith, length_under xs t s (omega arith) k)) ∙ ap (λ (j : ℕ). under (under xs t s) j (x ∷ [])) e
-      ∙ under_under xs t (x ∷ []) s (omega arith) k
-
 pub put_under : (d : List ℕ) (at : ℕ) (s : List ℕ) → put d at s ≡ under d (at + length s) s
 unfolding put under
 put_under d at s = let e : at + length s - length s ≡ at = omega arith in rw e
-
--- ---- bytes that move up, from their end backwards
-
--- bytes i up to `to` have moved to where they end at `end`
-pub record Moving (before : List ℕ) (from to end shift : ℕ) (now : List ℕ) (i : ℕ) : Type 0 where
-  pub from_in : from ≤ i
-  pub to_in : i ≤ to
-  pub shift_is : shift ≡ end - to
-  pub size : length now ≡ length before
-  pub holds : now ≡ under before end (take (to - i) (drop i before))
-
-module _ (before : List ℕ) (from to end shift : ℕ) where
-  pub none_has_moved : from ≤ to → shift ≡ end - to → Moving before from to end shift before to
-  none_has_moved h e =
-      let z : to - to ≡ 0 = omega arith in
-      record { from_in = h; to_in = omega arith; shift_is = e; size = refl; holds = rw z (sym (under_none before end)) }
-
-  module _ (now : List ℕ) (i : ℕ) (m : Moving before from to end shift now i) where
-    pub all_have_moved : i ≤ from → now ≡ under before end (take (to - from) (drop from before))
-    all_have_moved h = let e : i ≡ from = omega (arith, m.from_in) in rw (← e) m.holds
-
-    module _ (h : from < i) (t : to ≤ end) (n : end ≤ length before) where
-      abbrev s : List ℕ
-      s = take (to - i) (drop i before)
-
-      s_long : length s ≡ to - i
-      s_long = length-take-le (to - i) (drop i before) (rw (length-drop i before) (omega (arith, m.to_in)))
-
-      byte : get_or now (i - 1) 0 ≡ get_or before (i - 1) 0
-      byte = rw m.holds (get_d_under before end s (omega (arith, s_long, m.to_in)) n (i - 1) 0 (omega (arith, s_long, m.to_in)))
-
-      more : take (to - (i - 1)) (drop (i - 1) before) ≡ get_or before (i - 1) 0 ∷ s
-      more =
-          let a : to - (i - 1) ≡ suc (to - i) = omega (arith, m.to_in) in
-          let b : suc (i - 1) ≡ i = omega arith in
-          rw (a, drop-cons before (i - 1) 0 (omega (arith, m.to_in)), b)
-
-      pub one_more_moves : Moving before from to end shift (set now (i - 1 + shift) (get_or now (i - 1) 0)) (i - 1)
-      one_more_moves = record {
-        from_in = omega arith;
-        to_in = omega (arith, m.to_in);
-        shift_is = m.shift_is;
-        size = simp length-set m.size;
-        holds =
-            let e : i - 1 + shift + 1 ≡ end - length s = omega (arith, s_long, m.to_in, m.shift_is) in
-            rw (byte, m.holds, more) (set_under before end s (i - 1 + shift) (get_or before (i - 1) 0) e (omega (arith, s_long, m.to_in)) n);
-      }

@@ -4,11 +4,10 @@ use mathlib.Core.List.{List, [], ◌∷◌, ◌++◌}
 use Prim.Native.Nat.{ℕ, ◌+◌}
 use native.Mathlib.Omega.{arith}
 use native.Mathlib.Nat.{add-zero}
-use lib.ListN.{length, length-map}
+use lib.ListN.{length}
 use Rattle.leaf_node.specs.Record.{Record, total}
 use Rattle.leaf_work.specs.declared.Entry.{Entry}
 use Rattle.leaf_work.specs.Lent.{insert_at}
-use Rattle.leaf_work.specs.Flat.{row_of, rows_of, keys_of}
 use Rattle.leaf_work.specs.Tests.{bit}
 use Rattle.leaf_work.specs.Digest.{inserts_of}
 use Rattle.leaf_work.proofs.Operations.{puts, puts_entries, puts_length, entries_length}
@@ -22,11 +21,5 @@ inserts_append at (r ∷ rs) ss =
     inserts_append (at + length r.value) rs ss ∙ ap (λ (k : ℕ). inserts_of (at + length r.value) rs ++ inserts_of k ss) e in
     ap (λ (es : List Entry). insert_at at (at + length r.value) r.key (bit r.flag) ∷ es) ih
 
-inserts_many : (at : ℕ) (rs : List Record) → length (inserts_of at rs) ≡ length rs
+pub inserts_many : (at : ℕ) (rs : List Record) → length (inserts_of at rs) ≡ length rs
 inserts_many at rs = ap length (sym (puts_entries [] at rs)) ∙ entries_length [] at (puts rs) ∙ puts_length rs
-
-pub rows_many : (at : ℕ) (rs : List Record) → length (rows_of (inserts_of at rs)) ≡ length rs
-rows_many at rs = length-map (inserts_of at rs) row_of ∙ inserts_many at rs
-
-pub keys_many : (at : ℕ) (rs : List Record) → length (keys_of (inserts_of at rs)) ≡ length rs
-keys_many at rs = length-map (inserts_of at rs) (λ (e : Entry). e.key) ∙ inserts_many at rs

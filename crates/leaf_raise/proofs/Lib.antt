@@ -2,4 +2,3 @@
 pub mod Inserts
 pub mod Raising
 pub mod Sources
-pub mod Entries

@@ -1,9 +1,9 @@
--- Records raised to the end of rows, keys and store as inserts, the last one first; what raising them requires.
-use Rattle.std.specs.Prelude.{◌≡◌, List, map, ℕ, ◌+◌, ◌-◌, ◌≤◌, ◌<◌, length, get_or}
+-- Records raised to the end of list and store as inserts, the last one first; what raising them requires.
+use Rattle.std.specs.Prelude.{◌≡◌, List, ℕ, ◌+◌, ◌-◌, ◌≤◌, ◌<◌, length}
 use Rattle.leaf_node.specs.Record.{Record, values, total}
 use Rattle.leaf_node.specs.Page.{count}
 use Rattle.leaf_node.specs.Steps.{Laid}
-use Rattle.leaf_work.specs.Flat.{row_of}
+use Rattle.leaf_work.specs.declared.Entry.{Entry}
 use Rattle.leaf_work.specs.Digest.{inserts_of}
 use Rattle.leaf_write.specs.Filling.{InsertIn}
 use Rattle.leaf_move.specs.Moving.{under}
@@ -11,21 +11,19 @@ use Rattle.leaf_raise.specs.declared.Top.{Top}
 
 -- below so many records with so many bytes
 abbrev pub lower_by : Top → ℕ → ℕ → Top
-lower_by top few bytes = record { row = top.row - few; to = top.to - bytes; at = top.at - bytes }
+lower_by top few bytes = record { entry = top.entry - few; to = top.to - bytes; at = top.at - bytes }
 
-module _ (rows keys : List (List ℕ)) (store : List ℕ) (top : Top) (rs : List Record) where
+module _ (list : List Entry) (store : List ℕ) (top : Top) (rs : List Record) where
   pub record Room : Type 0 where
-    pub as_many : length rows ≡ length keys
-    pub rows_in : top.row ≤ length rows
+    pub list_in : top.entry ≤ length list
     pub store_in : top.at ≤ length store
-    pub few : length rs ≤ top.row
+    pub few : length rs ≤ top.entry
     pub short : total rs ≤ top.to
     pub fits : total rs ≤ top.at
 
-  -- the records stand right below the top, their rows with the places that their values will have
-  pub record Raised (rows' keys' : List (List ℕ)) (store' : List ℕ) : Type 0 where
-    pub rows_are : rows' ≡ under rows top.row (map row_of (inserts_of (top.to - total rs) rs))
-    pub keys_are : keys' ≡ under keys top.row (map (λ e. e.key) (inserts_of (top.to - total rs) rs))
+  -- the records stand right below the top, their entries with the places that their values will have
+  pub record Raised (list' : List Entry) (store' : List ℕ) : Type 0 where
+    pub list_is : list' ≡ under list top.entry (inserts_of (top.to - total rs) rs)
     pub store_is : store' ≡ under store top.at (values rs)
 
 -- ---- what is required
@@ -41,6 +39,6 @@ pub record RangeThere (page : List ℕ) (from to : ℕ) : Type 0 where
   pub laid : from < to → Laid page (count page)
 
 -- leaf_write's `EntryThere`, but an insert's value ends below the top, and a chunk's range may be empty
-pub record EntryBelow (page row : List ℕ) (skip : ℕ) (top : Top) : Type 0 where
-  pub insert : get_or row 0 0 ≡ 1 → (skip ≡ 0) × InsertIn row top.at
-  pub chunk : (get_or row 0 0 ≡ 1 → ⊥) → RangeThere page (get_or row 2 0 + skip) (get_or row 3 0)
+pub record EntryBelow (page : List ℕ) (e : Entry) (skip : ℕ) (top : Top) : Type 0 where
+  pub insert : e.kind ≡ 1 → (skip ≡ 0) × InsertIn e top.at
+  pub chunk : (e.kind ≡ 1 → ⊥) → RangeThere page (e.from + skip) e.to

@@ -8,8 +8,6 @@ use native.Mathlib.Decide.{dec_lt}
 use lib.Dec.{ltb}
 use lib.ListN.{length, get_or, take, length-append, length-take}
 use lib.Seq.{length-take-le, take_all}
-use mir.Syntax.{w64}
-use mir.Val.{Fits}
 use borrow.Author.Tests.{lt-ltb, le-ltb}
 use Rattle.leaf_node.specs.Limits.{body_limit}
 use Rattle.leaf_node.specs.Record.{Record, values, total}
@@ -19,6 +17,8 @@ use Rattle.leaf_node.specs.Fits.{All, Keyed}
 use Rattle.leaf_node.specs.Steps.{Laid}
 use Rattle.leaf_node.proofs.Lengths.{length_run, body_is_pointers_and_values}
 use Rattle.leaf_model.proofs.Lists.{all_left, all_right_lem}
+use Rattle.leaf_work.specs.declared.Entry.{Entry}
+use Rattle.leaf_work.specs.Lent.{blank}
 use Rattle.leaf_work.proofs.Operations.{total_append}
 use Rattle.leaf_builder.specs.Steps.{Begins}
 use Rattle.leaf_builder.proofs.Putting.{put_none}
@@ -26,10 +26,10 @@ use Rattle.leaf_builder.proofs.Pushing.{length_started, length_pushed, pushes_jo
 use Rattle.leaf_cut.specs.declared.Gauge.{Gauge}
 use Rattle.leaf_cut.specs.declared.Span.{Span}
 use Rattle.leaf_cut.specs.declared.Cursor.{Cursor}
-use Rattle.leaf_cut.specs.Records.{records_from, entry_records}
+use Rattle.leaf_cut.specs.Records.{records_from}
 use Rattle.leaf_cut.specs.Steps.{Spread, CursorIn, Kept}
 use Rattle.leaf_cut.proofs.Walking.{insert_sizes, chunk_many, an_entry_has_a_record}
-use Rattle.leaf_cut.proofs.Parts.{what_is_kept_is_spread, the_records_from_an_entry_on, the_records_from_the_rest_on, an_entry_has_records_from_its_cursor_on}
+use Rattle.leaf_cut.proofs.Parts.{what_is_kept_is_spread, the_records_from_an_entry_on, the_records_from_the_rest_on}
 use Rattle.leaf_write.specs.declared.Pushed.{Pushed}
 use Rattle.leaf_write.specs.Filling.{part_from, EntryThere, PartThere, Filling, LeafFits}
 
@@ -75,118 +75,114 @@ pushed_none d j at = rw (put_none d (34 * j + 2), put_none d at)
 
 -- ---- what a cursor stands before can be read
 
-module _ (rows keys : List (List ℕ)) (store page : List ℕ) (s : Span) (h : Kept rows keys store page s) (at : Cursor) (c : CursorIn rows page s at) where
-  spread : Spread rows page s
-  spread = what_is_kept_is_spread rows keys store page s h
+module _ (list : List Entry) (store page : List ℕ) (s : Span) (h : Kept list store page s) (at : Cursor) (c : CursorIn list page s at) where
+  spread : Spread list page s
+  spread = what_is_kept_is_spread list store page s h
 
-  laid : 0 < s.n → Laid page (count page)
-  laid l = rw h.rest.counted at (h.rest.laid l)
+  laid : 0 < count page → Laid page (count page)
+  laid l = h.rest.laid l
 
   module _ (l : at.entry < s.used) where
-    abbrev row : List ℕ
-    row = get_or rows at.entry []
+    abbrev entry : Entry
+    entry = get_or list at.entry blank
 
-    pub the_entry_of_a_cursor_can_be_read : EntryThere store page (get_or rows at.entry []) at.skip
+    pub the_entry_of_a_cursor_can_be_read : EntryThere store page (get_or list at.entry blank) at.skip
     the_entry_of_a_cursor_can_be_read =
         let e = h.entries at.entry l in
         let k = c.skip_in l in
         record {
           insert = λ q. (
-            omega (arith, k, ap length (insert_sizes page row s (spread.entries at.entry l) h.rest q)),
+            omega (arith, k, ap length (insert_sizes page entry s (spread.entries at.entry l) h.rest q)),
             record { order = (e.insert q).0; there = (e.insert q).1 },
           );
           chunk = λ q. record {
-            order = omega (arith, k, chunk_many page row s (spread.entries at.entry l) h.rest q);
-            there = omega (arith, (e.chunk q).1, h.rest.low_in, h.rest.counted);
+            order = omega (arith, k, chunk_many page entry s (spread.entries at.entry l) h.rest q);
+            there = omega (arith, (e.chunk q).1, h.rest.low_in);
             laid = laid (omega (arith, (e.chunk q).0, (e.chunk q).1, h.rest.low_in));
           };
         }
 
-    pub the_next_entry_is_there : CursorIn rows page s (record { entry = at.entry + 1; skip = 0 })
+    pub the_next_entry_is_there : CursorIn list page s (record { entry = at.entry + 1; skip = 0 })
     the_next_entry_is_there = record {
       entry_in = omega arith;
-      skip_in = λ m. an_entry_has_a_record page (get_or rows (at.entry + 1) []) s (spread.entries (at.entry + 1) m) h.rest;
+      skip_in = λ m. an_entry_has_a_record page (get_or list (at.entry + 1) blank) s (spread.entries (at.entry + 1) m) h.rest;
       rest_in = λ e. omega (arith, h.rest.low_in);
     }
 
   rest_at : s.used ≤ at.entry → at.entry ≡ s.used
   rest_at l = omega (arith, c.entry_in)
 
-  pub rest_many : (l : s.used ≤ at.entry) → length (records_from s rows keys store page at) ≡ s.n - (s.low + at.skip)
+  pub rest_many : (l : s.used ≤ at.entry) → length (records_from s list store page at) ≡ count page - (s.low + at.skip)
   unfolding records_between
   rest_many l =
-      ap length (the_records_from_the_rest_on rows keys store page s h at (rest_at l) (c.rest_in (rest_at l))) ∙ length_run (s.n - (s.low + at.skip)) (s.low + at.skip) (record_at page)
+      ap length (the_records_from_the_rest_on list store page s h at (rest_at l) (c.rest_in (rest_at l))) ∙ length_run (count page - (s.low + at.skip)) (s.low + at.skip) (record_at page)
 
-  pub a_cursor_has_its_part : 0 < length (records_from s rows keys store page at) → PartThere rows keys store page s at
+  pub a_cursor_has_its_part : 0 < length (records_from s list store page at) → PartThere list store page s at
   a_cursor_has_its_part m = record {
-    row_in = λ l. omega (arith, h.used_in);
-    key_in = λ l. omega (arith, h.used_in, h.as_many);
+    entry_in = λ l. omega (arith, h.used_in);
     entry = the_entry_of_a_cursor_can_be_read;
-    rest = λ l. record { order = c.rest_in (rest_at l); there = omega (arith, h.rest.counted); laid = laid (omega (arith, m, rest_many l)) };
+    rest = λ l. record { order = c.rest_in (rest_at l); there = omega (arith); laid = laid (omega (arith, m, rest_many l)) };
   }
 
   -- the records behind its part
   behind : List Record
-  behind = cond (ltb at.entry s.used) (records_from s rows keys store page (record { entry = at.entry + 1; skip = 0 })) []
+  behind = cond (ltb at.entry s.used) (records_from s list store page (record { entry = at.entry + 1; skip = 0 })) []
 
-  parted : records_from s rows keys store page at ≡ part_from s rows keys store page at ++ behind
+  parted : records_from s list store page at ≡ part_from s list store page at ++ behind
   unfolding part_from behind
   parted = elim (dec_lt at.entry s.used) [
-    | yes l ↦ rw (lt-ltb at.entry s.used l) (the_records_from_an_entry_on rows keys store page s h at l (c.skip_in l))
+    | yes l ↦ rw (lt-ltb at.entry s.used l) (the_records_from_an_entry_on list store page s h at l (c.skip_in l))
     | no l ↦
         let e : s.used ≤ at.entry = omega arith in
-        rw (le-ltb at.entry s.used e, append-nil (records_between page (s.low + at.skip) s.n)) (the_records_from_the_rest_on rows keys store page s h at (rest_at e) (c.rest_in (rest_at e)))
+        rw (le-ltb at.entry s.used e, append-nil (records_between page (s.low + at.skip) (count page))) (the_records_from_the_rest_on list store page s h at (rest_at e) (c.rest_in (rest_at e)))
   ]
 
 -- ---- part after part
 
-module _ (rows keys : List (List ℕ)) (store page : List ℕ) (s : Span) (n : ℕ) (d₀ : List ℕ) (first : ℕ) (start : Cursor) where
+module _ (list : List Entry) (store page : List ℕ) (s : Span) (n : ℕ) (d₀ : List ℕ) (first : ℕ) (start : Cursor) where
   -- j of n records are in the page, the value of the next one will begin at b
   pub record Filled (d : List ℕ) (at : Cursor) (j b : ℕ) : Type 0 where
     pub upto : j ≤ n
-    pub there : j < n → CursorIn rows page s at
-    pub more : n - j ≤ length (records_from s rows keys store page at)
-    pub room : Filling (length d) j b (take (n - j) (records_from s rows keys store page at))
-    pub whole : pushed d₀ 0 first (take n (records_from s rows keys store page start)) ≡ pushed d j b (take (n - j) (records_from s rows keys store page at))
+    pub there : j < n → CursorIn list page s at
+    pub more : n - j ≤ length (records_from s list store page at)
+    pub room : Filling (length d) j b (take (n - j) (records_from s list store page at))
+    pub whole : pushed d₀ 0 first (take n (records_from s list store page start)) ≡ pushed d j b (take (n - j) (records_from s list store page at))
     pub same : length d ≡ length d₀
 
-  pub an_empty_page_is_filled : CursorIn rows page s start → n ≤ length (records_from s rows keys store page start)
-      → Filling (length d₀) 0 first (take n (records_from s rows keys store page start)) → Filled d₀ start 0 first
+  pub an_empty_page_is_filled : CursorIn list page s start → n ≤ length (records_from s list store page start)
+      → Filling (length d₀) 0 first (take n (records_from s list store page start)) → Filled d₀ start 0 first
   an_empty_page_is_filled c m f =
       let z : n - 0 ≡ n = omega arith in
       record { upto = omega arith; there = λ l. c; more = omega arith; room = rw z f; whole = rw z; same = refl }
 
   module _ (d : List ℕ) (at : Cursor) (j b : ℕ) (w : Filled d at j b) where
-    pub a_filled_page_has_all : n ≤ j → d ≡ pushed d₀ 0 first (take n (records_from s rows keys store page start))
-    a_filled_page_has_all l = let z : n - j ≡ 0 = omega arith in sym (w.whole ∙ ap (λ (k : ℕ). pushed d j b (take k (records_from s rows keys store page at))) z ∙ pushed_none d j b)
+    pub a_filled_page_has_all : n ≤ j → d ≡ pushed d₀ 0 first (take n (records_from s list store page start))
+    a_filled_page_has_all l = let z : n - j ≡ 0 = omega arith in sym (w.whole ∙ ap (λ (k : ℕ). pushed d j b (take k (records_from s list store page at))) z ∙ pushed_none d j b)
 
-    module _ (h : Kept rows keys store page s) (l : j < n) where
+    module _ (h : Kept list store page s) (l : j < n) where
       abbrev part : List Record
-      part = part_from s rows keys store page at
+      part = part_from s list store page at
 
       abbrev rs : List Record
       rs = take (n - j) part
 
       abbrev rest : List Record
-      rest = behind rows keys store page s h at (w.there l)
+      rest = behind list store page s h at (w.there l)
 
       abbrev ss : List Record
       ss = take (n - j - length rs) rest
 
-      two : take (n - j) (records_from s rows keys store page at) ≡ rs ++ ss
-      two = ap (take (n - j)) (parted rows keys store page s h at (w.there l)) ∙ take_append (n - j) part rest
+      two : take (n - j) (records_from s list store page at) ≡ rs ++ ss
+      two = ap (take (n - j)) (parted list store page s h at (w.there l)) ∙ take_append (n - j) part rest
 
       fill : Filling (length d) j b (rs ++ ss)
       fill = rw two at w.room
 
-      pub the_part_can_be_read : PartThere rows keys store page s at
-      the_part_can_be_read = a_cursor_has_its_part rows keys store page s h at (w.there l) (omega (arith, w.more))
+      pub the_part_can_be_read : PartThere list store page s at
+      the_part_can_be_read = a_cursor_has_its_part list store page s h at (w.there l) (omega (arith, w.more))
 
-      pub the_part_has_room : Filling (length d) j b (take (n - j) (part_from s rows keys store page at))
+      pub the_part_has_room : Filling (length d) j b (take (n - j) (part_from s list store page at))
       the_part_has_room = first_goes_in d j b rs ss fill
-
-      pub the_entries_are_few : Fits w64 (at.entry + 1)
-      the_entries_are_few = record { fits = omega (arith, (w.there l).entry_in, h.used_few) }
 
       rs_few : length rs ≤ n - j
       rs_few = rw (length-take (n - j) part) (omega arith)
@@ -194,7 +190,7 @@ module _ (rows keys : List (List ℕ)) (store page : List ℕ) (s : Span) (n : �
       abbrev next : Cursor
       next = record { entry = at.entry + 1; skip = 0 }
 
-      in_an_entry : at.entry < s.used → rest ≡ records_from s rows keys store page next
+      in_an_entry : at.entry < s.used → rest ≡ records_from s list store page next
       unfolding behind
       in_an_entry e = rw (lt-ltb at.entry s.used e)
 
@@ -202,27 +198,16 @@ module _ (rows keys : List (List ℕ)) (store page : List ℕ) (s : Span) (n : �
       unfolding behind
       in_the_rest e = rw (le-ltb at.entry s.used e)
 
-      all_many : length (records_from s rows keys store page at) ≡ length part + length rest
-      all_many = ap length (parted rows keys store page s h at (w.there l)) ∙ length-append part rest
+      all_many : length (records_from s list store page at) ≡ length part + length rest
+      all_many = ap length (parted list store page s h at (w.there l)) ∙ length-append part rest
 
       rest_all : s.used ≤ at.entry → length rs ≡ n - j
       rest_all e = length-take-le (n - j) part (omega (arith, w.more, all_many, ap length (in_the_rest e)))
 
-      part_some : 0 < length part
-      part_some = elim (dec_lt at.entry s.used) [ yes e ↦ entry_some e | no e ↦ omega (arith, w.more, all_many, ap length (in_the_rest (omega arith))) ]
-        where
-          entry_some : at.entry < s.used → 0 < length part
-          entry_some e =
-              let q : part ≡ entry_records store page (get_or rows at.entry []) (get_or keys at.entry []) at.skip = unfold part_from in rw (lt-ltb at.entry s.used e) in
-              omega (arith, ap length q, an_entry_has_records_from_its_cursor_on rows keys store page s h at e ((w.there l).skip_in e))
-
       rs_many : (length part ≤ n - j → length rs ≡ length part) × (n - j ≤ length part → length rs ≡ n - j)
       rs_many = ((λ m. ap length (take_all (n - j) part m)), (λ m. length-take-le (n - j) part m))
 
-      rs_some : 0 < length rs
-      rs_some = elim (dec_lt (n - j) (length part)) [ yes m ↦ omega (arith, rs_many.1 (omega arith)) | no m ↦ omega (arith, rs_many.0 (omega arith), part_some) ]
-
-      ss_is : ss ≡ take (n - (j + length rs)) (records_from s rows keys store page next)
+      ss_is : ss ≡ take (n - (j + length rs)) (records_from s list store page next)
       ss_is = elim (dec_lt at.entry s.used) [
         | yes e ↦ let z : n - j - length rs ≡ n - (j + length rs) = omega arith in rw (in_an_entry e, z)
         | no e ↦
@@ -231,7 +216,7 @@ module _ (rows keys : List (List ℕ)) (store page : List ℕ) (s : Span) (n : �
             rw (a, z)
       ]
 
-      next_more : n - (j + length rs) ≤ length (records_from s rows keys store page next)
+      next_more : n - (j + length rs) ≤ length (records_from s list store page next)
       next_more = elim (dec_lt at.entry s.used) [
         | yes e ↦ elim (dec_lt (n - j) (length part)) [
           | yes m ↦ omega (arith, rs_many.1 (omega arith))
@@ -240,8 +225,8 @@ module _ (rows keys : List (List ℕ)) (store page : List ℕ) (s : Span) (n : �
         | no e ↦ omega (arith, rest_all (omega arith))
       ]
 
-      next_there : j + length rs < n → CursorIn rows page s next
-      next_there m = elim (dec_lt at.entry s.used) [ yes e ↦ the_next_entry_is_there rows keys store page s h at (w.there l) e | no e ↦ absurd (omega (arith, rest_all (omega arith))) ]
+      next_there : j + length rs < n → CursorIn list page s next
+      next_there m = elim (dec_lt at.entry s.used) [ yes e ↦ the_next_entry_is_there list store page s h at (w.there l) e | no e ↦ absurd (omega (arith, rest_all (omega arith))) ]
 
       further : Filled (pushed d j b rs) next (j + length rs) (b + total rs)
       further = record {
@@ -253,14 +238,8 @@ module _ (rows keys : List (List ℕ)) (store page : List ℕ) (s : Span) (n : �
         same = same_long d j b rs ss fill ∙ w.same;
       }
 
-      module _ (p : Pushed) (m : p.count ≡ length (take (n - j) (part_from s rows keys store page at))) where
-        pub few_are_pushed : Fits w64 n → Fits w64 (j + p.count)
-        few_are_pushed f = record { fits = omega (arith, rs_few, m, f.fits) }
-
-        pub some_are_pushed : n - (j + p.count) < n - j
-        some_are_pushed = omega (arith, rs_some, m)
-
-        pub a_part_is_pushed : (x : List ℕ) → x ≡ pushed d j b (take (n - j) (part_from s rows keys store page at)) → p.at ≡ b + total (take (n - j) (part_from s rows keys store page at))
+      module _ (p : Pushed) (m : p.count ≡ length (take (n - j) (part_from s list store page at))) where
+        pub a_part_is_pushed : (x : List ℕ) → x ≡ pushed d j b (take (n - j) (part_from s list store page at)) → p.at ≡ b + total (take (n - j) (part_from s list store page at))
             → Filled x (record { entry = at.entry + 1; skip = 0 }) (j + p.count) p.at
         a_part_is_pushed x q e = rw (q, m, e) further
 
@@ -276,9 +255,6 @@ module _ (d : List ℕ) (leaf : Gauge) (R : List Record) (f : LeafFits (length d
 
   pub a_leaf_begins : Begins (length d) leaf.count leaf.bytes
   a_leaf_begins = record { room = leaf_room; count = omega (arith, leaf_room, f.fits.sized.most) }
-
-  pub a_leaf_is_there : leaf.count ≤ length R
-  a_leaf_is_there = f.there
 
   module _ (x : List ℕ) (first : ℕ) (q : x ≡ started d leaf.count leaf.bytes) (e : first ≡ length d - leaf.bytes) where
     x_long : length x ≡ length d

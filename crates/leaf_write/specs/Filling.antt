@@ -1,30 +1,27 @@
 -- The page of a leaf, filled from store and base: the pieces that are pushed, and what pushing them requires.
-use Rattle.std.specs.Prelude.{cond, ◌≡◌, List, [], ℕ, ◌+◌, ◌-◌, ◌≤◌, ◌<◌, eqb, leb, ltb, length, get_or, take, drop}
-use Rattle.leaf_node.specs.Limits.{most_page_bytes}
+use Rattle.std.specs.Prelude.{cond, ◌≡◌, List, [], ◌∷◌, ℕ, ◌+◌, ◌-◌, ◌≤◌, ◌<◌, ltb, length, get_or, take, drop}
+use Rattle.std.proofs.Math.Option.{Option, none, some}
 use Rattle.leaf_node.specs.Record.{Record, total}
 use Rattle.leaf_node.specs.Page.{count, pointer, key_at, records_between}
 use Rattle.leaf_node.specs.Steps.{Laid}
 use Rattle.leaf_node.specs.Fits.{All, Keyed, Fits}
+use Rattle.leaf_work.specs.declared.Entry.{Entry}
 use Rattle.leaf_work.specs.Tests.{is_set}
+use Rattle.leaf_work.specs.Lent.{blank, an_insert}
 use Rattle.leaf_cut.specs.declared.Gauge.{Gauge}
 use Rattle.leaf_cut.specs.declared.Span.{Span}
 use Rattle.leaf_cut.specs.declared.Cursor.{Cursor}
 use Rattle.leaf_cut.specs.Records.{entry_records}
 
--- the end of a range of which no more than `left` are wanted
-unfoldable pub clipped : ℕ → ℕ → ℕ → ℕ
-clipped from to left = cond (leb (to - from) left) to (from + left)
-
 -- "an insert with its place in the store"
-unfoldable pub insert_record : List ℕ → List ℕ → List ℕ → Record
-insert_record store row key =
-    record { key = key; value = take (get_or row 3 0 - get_or row 2 0) (drop (get_or row 2 0) store); flag = is_set (get_or row 1 0) }
+unfoldable pub insert_record : List ℕ → Entry → Record
+insert_record store e = record { key = e.key; value = take (e.to - e.from) (drop e.from store); flag = is_set e.flag }
 
 -- what the cursor's entry, or the base's rest, has from it on
-unfoldable pub part_from : Span → List (List ℕ) → List (List ℕ) → List ℕ → List ℕ → Cursor → List Record
-part_from s rows keys store page at =
-    cond (ltb at.entry s.used) (entry_records store page (get_or rows at.entry []) (get_or keys at.entry []) at.skip)
-    (records_between page (s.low + at.skip) s.n)
+unfoldable pub part_from : Span → List Entry → List ℕ → List ℕ → Cursor → List Record
+part_from s list store page at =
+    cond (ltb at.entry s.used) (entry_records store page (get_or list at.entry blank) at.skip)
+    (records_between page (s.low + at.skip) (count page))
 
 -- ---- what is required
 
@@ -34,19 +31,18 @@ pub record RangeIn (page : List ℕ) (from to : ℕ) : Type 0 where
   pub laid : Laid page (count page)
 
 -- an insert whose value lies below byte `end` of the store
-pub record InsertIn (row : List ℕ) (end : ℕ) : Type 0 where
-  pub order : get_or row 2 0 ≤ get_or row 3 0
-  pub there : get_or row 3 0 ≤ end
+pub record InsertIn (e : Entry) (end : ℕ) : Type 0 where
+  pub order : e.from ≤ e.to
+  pub there : e.to ≤ end
 
-pub record EntryThere (store page row : List ℕ) (skip : ℕ) : Type 0 where
-  pub insert : get_or row 0 0 ≡ 1 → (skip ≡ 0) × InsertIn row (length store)
-  pub chunk : (get_or row 0 0 ≡ 1 → ⊥) → RangeIn page (get_or row 2 0 + skip) (get_or row 3 0)
+pub record EntryThere (store page : List ℕ) (e : Entry) (skip : ℕ) : Type 0 where
+  pub insert : e.kind ≡ 1 → (skip ≡ 0) × InsertIn e (length store)
+  pub chunk : (e.kind ≡ 1 → ⊥) → RangeIn page (e.from + skip) e.to
 
-pub record PartThere (rows keys : List (List ℕ)) (store page : List ℕ) (s : Span) (at : Cursor) : Type 0 where
-  pub row_in : at.entry < s.used → at.entry < length rows
-  pub key_in : at.entry < s.used → at.entry < length keys
-  pub entry : at.entry < s.used → EntryThere store page (get_or rows at.entry []) at.skip
-  pub rest : s.used ≤ at.entry → RangeIn page (s.low + at.skip) s.n
+pub record PartThere (list : List Entry) (store page : List ℕ) (s : Span) (at : Cursor) : Type 0 where
+  pub entry_in : at.entry < s.used → at.entry < length list
+  pub entry : at.entry < s.used → EntryThere store page (get_or list at.entry blank) at.skip
+  pub rest : s.used ≤ at.entry → RangeIn page (s.low + at.skip) (count page)
 
 -- records have room in a page of m bytes as records from j on, with their values from byte `at` on
 pub record Filling (m j at : ℕ) (rs : List Record) : Type 0 where
@@ -63,16 +59,14 @@ pub record LeafFits (m : ℕ) (leaf : Gauge) (rs : List Record) : Type 0 where
 
 -- ---- keys
 
--- the key of the first record from a cursor on
-unfoldable pub key_from : Span → List (List ℕ) → List (List ℕ) → List ℕ → Cursor → List ℕ
-key_from s rows keys page at =
-    cond (ltb at.entry s.used)
-    (cond (eqb (get_or (get_or rows at.entry []) 0 0) 1) (get_or keys at.entry []) (key_at page (get_or (get_or rows at.entry []) 2 0 + at.skip)))
-    (key_at page (s.low + at.skip))
+-- the key of the first record, where there is one
+abbrev pub first_key : List Record → Option (List ℕ)
+first_key [] = none
+first_key (r ∷ rs) = some r.key
 
-pub record KeyThere (rows keys : List (List ℕ)) (page : List ℕ) (s : Span) (at : Cursor) : Type 0 where
-  pub row_in : at.entry < s.used → at.entry < length rows
-  pub key_in : at.entry < s.used → at.entry < length keys
-  pub chunk : at.entry < s.used → (get_or (get_or rows at.entry []) 0 0 ≡ 1 → ⊥) → pointer (get_or (get_or rows at.entry []) 2 0 + at.skip + 1) ≤ length page
-  pub rest : s.used ≤ at.entry → pointer (s.low + at.skip + 1) ≤ length page
-  pub short : length page ≤ most_page_bytes
+-- that of the records from a cursor on, by the cursor's entry
+unfoldable pub key_from : Span → List Entry → List ℕ → Cursor → Option (List ℕ)
+key_from s list page at =
+    cond (ltb at.entry s.used)
+    (some (cond (an_insert (get_or list at.entry blank)) ((get_or list at.entry blank).key) (key_at page ((get_or list at.entry blank).from + at.skip))))
+    (cond (ltb (s.low + at.skip) (count page)) (some (key_at page (s.low + at.skip))) none)

@@ -1,6 +1,5 @@
 -- `digest_keep::lift_insert` meets its contract.
 -- Assumes nothing.
-use Rattle.std.proofs.Common.{rules}
 use Rattle.digest_keep.proofs.Records.{an_insert_has_room, an_insert_is_lifted}
 use Rattle.digest_keep.proofs.lift_insert.Goals as goal
 

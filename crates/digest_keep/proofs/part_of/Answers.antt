@@ -1,14 +1,11 @@
 -- `digest_keep::part_of` meets its contract.
 -- Assumes nothing.
 use Rattle.std.proofs.Common.{rules}
-use Rattle.digest_keep.proofs.Parts.{an_entry_is_its_part, the_rest_begins, the_rest_is_its_part}
+use Rattle.digest_keep.proofs.Parts.{an_entry_is_its_part, the_rest_is_its_part}
 use Rattle.digest_keep.proofs.part_of.Goals as goal
 
 pub returns-then-place-span : goal.returns-then-place-span
 returns-then-place-span c = search (an_entry_is_its_part, rules)
-
-pub overflow_add-span : goal.overflow_add-span
-overflow_add-span c = search (the_rest_begins, rules)
 
 pub returns : goal.returns
 returns c = search (the_rest_is_its_part, rules)

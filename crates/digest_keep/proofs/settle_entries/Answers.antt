@@ -1,7 +1,12 @@
 -- `digest_keep::settle_entries` meets its contract.
+-- Assumes nothing.
+use Rattle.std.proofs.Common.{◌∙◌}
 use Rattle.leaf_work.specs.Lent.{blank}
 use Rattle.leaf_move.proofs.Forward.{what_is_lowered_and_cleared_is_settled}
+use Rattle.leaf_move.proofs.Within.{copied_down_is_lowered}
 use Rattle.digest_keep.proofs.settle_entries.Goals as goal
 
 pub returns : goal.returns
-returns c = what_is_lowered_and_cleared_is_settled c.args.list.now c.args.count c.requires c.lower_entries.new.list c.lower_entries.ensures blank c.drain.new.list c.drain.ensures
+returns c =
+    let low = c.copy_within.ensures.after ∙ copied_down_is_lowered _ _ c.requires in
+    what_is_lowered_and_cleared_is_settled _ _ c.requires _ low blank _ c.drain.ensures

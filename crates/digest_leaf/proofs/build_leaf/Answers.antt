@@ -1,12 +1,12 @@
 -- `digest_leaf::build_leaf` meets its contract.
+use Rattle.leaf_cut.specs.Records.{records_from}
 use Rattle.leaf_write.proofs.Leaves.{a_leaf_begins, a_leaf_has_room, a_leaf_is_built}
-use Rattle.digest_leaf.specs.Pushing.{records_on}
 use Rattle.digest_leaf.proofs.build_leaf.Goals as goal
 
 pub begin-first-requires : goal.begin-first-requires
 begin-first-requires c =
     let a = c.args in
-    a_leaf_begins a.d.now a.leaf (records_on a.list.now a.store.now a.page.now a.span a.start) c.requires.fits
+    a_leaf_begins a.d.now a.leaf (records_from a.span a.list.now a.store.now a.node.page.now a.start) c.requires.fits
 
 pub push_records-requires : goal.push_records-requires
 push_records-requires c =
@@ -16,13 +16,12 @@ push_records-requires c =
     record {
       kept = req.kept;
       there = req.there;
-      some_record = req.some_record;
       enough = req.fits.there;
-      room = a_leaf_has_room a.d.now a.leaf (records_on a.list.now a.store.now a.page.now a.span a.start) req.fits begun.new.d begun.result begun.ensures.0 begun.ensures.1;
+      room = a_leaf_has_room a.d.now a.leaf (records_from a.span a.list.now a.store.now a.node.page.now a.start) req.fits begun.new.d begun.result begun.ensures.0 begun.ensures.1;
     }
 
 pub returns : goal.returns
 returns c =
     let a = c.args in
     let begun = c.begin-first in
-    a_leaf_is_built a.d.now a.leaf (records_on a.list.now a.store.now a.page.now a.span a.start) c.requires.fits begun.new.d begun.result begun.ensures.0 begun.ensures.1 c.push_records.new.d c.push_records.ensures
+    a_leaf_is_built a.d.now a.leaf (records_from a.span a.list.now a.store.now a.node.page.now a.start) c.requires.fits begun.new.d begun.result begun.ensures.0 begun.ensures.1 c.push_records.new.d c.push_records.ensures

@@ -1,20 +1,15 @@
 -- `digest_leaves::cut_leaves` meets its contract.
-use Rattle.digest_leaves.proofs.Finishing.{the_start_asks, cutting_asks, no_leaf_is_cut}
+use Rattle.digest_leaves.proofs.Finishing.{cutting_asks, no_leaf_is_cut}
 use Rattle.digest_leaves.proofs.cut_leaves.Goals as goal
 
-pub begin_leaves-begun-requires : goal.begin_leaves-begun-requires
-begin_leaves-begun-requires c =
-    let a = c.args in
-    the_start_asks a.size a.work a.list.now a.store.now a.page.now a.area.now a.tickets.now a.n c.requires
-
-pub try_build_leaves-built-requires : goal.try_build_leaves-built-requires
-try_build_leaves-built-requires c =
+pub try_build_leaves-requires : goal.try_build_leaves-requires
+try_build_leaves-requires c =
     let a = c.args in
     let begun = c.begin_leaves-begun in
-    cutting_asks a.size a.work a.list.now a.store.now a.page.now a.area.now a.tickets.now a.n c.requires begun.result begun.ensures c.is_cut-cut.result c.is_cut-cut.ensures c.if-cut.true c.body_of-body.result c.body_of-body.ensures
+    cutting_asks a.size a.work.now a.list.now a.store.now a.node.page.now a.area.now a.tickets.now c.requires a.node.n a.node.counted.counted begun.result begun.ensures c.in-Some.target c.in-Some.is
 
-pub returns-else-cut : goal.returns-else-cut
-returns-else-cut c =
+pub returns-in-None : goal.returns-in-None
+returns-in-None c =
     let a = c.args in
     let begun = c.begin_leaves-begun in
-    no_leaf_is_cut a.size a.work a.list.now a.store.now a.page.now a.area.now a.tickets.now a.n c.requires begun.result begun.ensures c.is_cut-cut.result c.is_cut-cut.ensures c.if-cut.false
+    no_leaf_is_cut a.size a.work.now a.list.now a.store.now a.node.page.now a.area.now a.tickets.now c.requires a.node.n a.node.counted.counted begun.result begun.ensures c.in-None.is

@@ -1,12 +1,10 @@
--- Before turn `i`: what was given out, the leaf that was sought behind it, area and tickets.
-use Rattle.std.proofs.Common.{◌-◌}
-use Rattle.digest_leaves.specs.Leaves.{CutAsked}
-use Rattle.digest_leaves.proofs.LeafByLeaf.{Upon}
+-- Before a turn: what was given out, the leaf that was sought behind it, area and tickets. Each leaf has a page in the area.
+use Rattle.std.proofs.Common.{◌-◌, length}
+use Rattle.leaf_give.proofs.LeafByLeaf.{Cutting}
 use Rattle.digest_leaves.proofs.try_build_leaves.Given as goal
 
-abbrev pub invariant-loop-i : goal.invariant-loop-i
-invariant-loop-i l =
-    (req : CutAsked l.size l.work l.list l.store l.page l.initial.area l.initial.tickets l.fn.n l.fn.start l.target) × Upon l.size l.work l.list l.store l.page l.initial.area l.initial.tickets l.fn.n l.fn.start l.target req l.initial.end l.p l.t l.area l.tickets l.end l.i
+abbrev pub invariant-loop-t : goal.invariant-loop-t
+invariant-loop-t l = Cutting l.size l.work l.list l.store l.node.page.now l.initial.area l.initial.tickets l.target l.p l.area l.tickets l.t
 
-abbrev pub decreases-loop-i : goal.decreases-loop-i
-decreases-loop-i l = l.initial.end - l.i
+abbrev pub decreases-loop-t : goal.decreases-loop-t
+decreases-loop-t l = length l.initial.area - l.p.leaves

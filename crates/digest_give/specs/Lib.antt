@@ -1,2 +1,0 @@
--- One leaf off the list, given out.
-pub mod Giving
