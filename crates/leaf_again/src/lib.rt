@@ -1,192 +1,127 @@
-// Next base and cutoff removal: a work that waits or is done is open again.
+// Next base and cutoff removal: a work that waits or is done is open again. List and store are only read.
 // Ported from nomt/src/beatree/ops/update/leaf_updater.rs of thrumdev/nomt: `LeafUpdater::reset_base` and `remove_cutoff`.
 #![tactic(auto)]
 
 ghost use Rattle.std.specs.Prelude.{◌≡◌, ◌≤◌, length};
-ghost use Rattle.refusal.specs.Refusal.{accepted};
+ghost use Rattle.std.specs.Option.{is_some};
+ghost use Rattle.refusal.specs.Numbers.{number_of};
 ghost use Rattle.leaf_node.specs.Limits.{PageSize};
-ghost use Rattle.leaf_node.specs.Page.{count};
-ghost use Rattle.leaf_node.specs.Steps.{Laid};
-ghost use Rattle.leaf_work.specs.Tests.{key_if};
-ghost use Rattle.leaf_work.specs.Flat.{list_of};
-ghost use Rattle.leaf_work.specs.Verdict.{closed_verdict, follows_verdict, next_base_verdict, remove_verdict};
-ghost use Rattle.leaf_work.specs.Outcome.{reply_number, Changed, changed_by, next_base_work, next_base_of, remove_work, remove_cutoff_of};
+ghost use Rattle.leaf_work.specs.Tests.{lent_key};
+ghost use Rattle.leaf_work.specs.Verdict.{follows_verdict, next_base_verdict, remove_verdict};
+ghost use Rattle.leaf_work.specs.Outcome.{reply_number, Changed, next_base_work, next_base_of, remove_work, remove_cutoff_of};
+ghost use Rattle.leaf_open.specs.Opening.{key_or_zeros, work_after};
 
 use bit_ops::less;
-use leaf_base::{base_verdict, room_right};
-use leaf_check::is_sound;
-use leaf_node::{PAGE_SIZE, count_of, size_between};
-use leaf_open::{Updated, bit_of, key_or_zeros};
-use leaf_work::Work;
-use refusal::{KEY_TOO_LOW, LIST_FULL, OUT_OF_TURN, ROOM_LENGTH, STORE_FULL, UNSOUND};
+use leaf_base::base_verdict;
+use leaf_check::closed_verdict;
+use leaf_node::{LeafNode, PAGE_SIZE};
+use leaf_open::key_or_zeros;
+use leaf_work::{Entry, Work};
+use refusal::Refusal;
 
-// What a call answers with its number: the work after it, or where it is refused the work as it was.
-pub fn reply_of(number: u8, work: Work, after: Work) -> Updated
-    ensures { (result.refusal ≡ reply_number (changed_by number work after).reply) × (result.work ≡ (changed_by number work after).work) }
-{
-    if number != 0 {
-        return Updated {
-            refusal: number,
-            work: work,
-        };
-    }
-    Updated {
-        refusal: number,
-        work: after,
-    }
-}
-
-// The refusal that room, turn and work earn of a call which a work that isn't open allows, or 0. The work ignores the page, so it is lent none.
-fn closed_verdict(
-    work: Work,
-    rows: &[[usize; 5]],
-    keys: &[[u8; 32]],
-    store: &[u8],
-    size: usize,
-) -> u8
-    requires { PageSize size }
-    ensures { result ≡ closed_verdict size work (list_of rows.now keys.now) store.now accepted }
-{
-    let room = room_right(rows, keys, store, size);
-    if !room {
-        return ROOM_LENGTH;
-    }
-    if work.turn == 1 {
-        return OUT_OF_TURN;
-    }
-    if !is_sound(work, rows, keys, store, &store[..0], size) {
-        return UNSOUND;
-    }
-    0
-}
-
-// The refusal of a good page as the next base of a sound work that isn't open, or 0.
+// What refuses a good page as the next base of a sound work that isn't open.
 pub fn follows_verdict(
-    work: Work,
-    page: &[u8],
+    work: &Work,
+    node: LeafNode,
     separator: &[u8; 32],
     entries: usize,
     bytes: usize,
-) -> u8
-    requires { (Laid page.now (count page.now)) × (count page.now ≤ entries) × (length page.now ≤ bytes) }
-    ensures { result ≡ follows_verdict work page.now separator.now entries bytes }
+) -> Result<(), Refusal>
+    requires { (node.n ≤ entries) × (length node.page.now ≤ bytes) }
+    ensures { number_of result ≡ follows_verdict work.now node.entry.page.now separator.now entries bytes }
 {
     if work.cut == 0 {
-        return OUT_OF_TURN;
+        return Err(Refusal::OutOfTurn);
     }
-    let cutoff = work.cutoff;
-    if less(separator, &cutoff) {
-        return KEY_TOO_LOW;
+    if less(separator, &work.cutoff) {
+        return Err(Refusal::KeyTooLow);
     }
-    let n = count_of(page);
-    if entries - n < work.count {
-        return LIST_FULL;
+    if entries - node.n < work.count {
+        return Err(Refusal::ListFull);
     }
-    if bytes - size_between(page, n, 0, n) < work.bytes {
-        return STORE_FULL;
+    if bytes - node.size_between(0, node.n) < work.bytes {
+        return Err(Refusal::StoreFull);
     }
-    0
+    Ok(())
 }
 
-// The refusal that a next base earns, or 0.
+// What refuses a next base.
 fn next_base_verdict(
-    work: Work,
-    rows: &[[usize; 5]],
-    keys: &[[u8; 32]],
+    work: &Work,
+    list: &[Entry],
     store: &[u8],
     page: &[u8],
     separator: &[u8; 32],
-    cut: bool,
-    cutoff: &[u8; 32],
+    cutoff: Option<&[u8; 32]>,
     size: usize,
-) -> u8
+) -> Result<(), Refusal>
     requires { PageSize size }
-    ensures { result ≡ next_base_verdict size work (list_of rows.now keys.now) store.now page.now separator.now (key_if cut cutoff.now) }
+    ensures { number_of result ≡ next_base_verdict size work.now list.now store.now page.now separator.now (lent_key cutoff.entry) }
 {
-    let base = base_verdict(page, separator, cut, cutoff, size);
-    if base != 0 {
-        return base;
-    }
-    let closed = closed_verdict(work, rows, keys, store, size);
-    if closed != 0 {
-        return closed;
-    }
-    follows_verdict(work, page, separator, rows.len(), store.len())
+    let node = base_verdict(page, separator, cutoff, size)?;
+    closed_verdict(work, list, store, size)?;
+    follows_verdict(work, node, separator, list.len(), store.len())
 }
 
-pub fn next_base_work(work: Work, separator: &[u8; 32], cut: bool, cutoff: &[u8; 32]) -> Work
-    ensures { result ≡ next_base_work work separator.now cut cutoff.now }
+pub fn next_base_work(work: &Work, separator: &[u8; 32], cutoff: Option<&[u8; 32]>) -> Work
+    ensures { result ≡ next_base_work work.now separator.now (is_some cutoff.entry) (key_or_zeros cutoff.entry) }
 {
-    let latest = *separator;
-    let kept = key_or_zeros(cut, cutoff);
-    let mut next = work;
-    next.turn = 1;
-    next.based = 1;
-    next.low = 0;
-    next.latest = latest;
-    next.cut = bit_of(cut);
-    next.cutoff = kept;
-    next.floor = latest;
-    next
+    Work {
+        turn: 1,
+        based: 1,
+        low: 0,
+        latest: *separator,
+        cut: u8::from(cutoff.is_some()),
+        cutoff: key_or_zeros(cutoff),
+        floor: *separator,
+        ..*work
+    }
 }
 
-// Next base: what is listed stays, and the new page is the base. List and store are only read.
+// Next base: what is listed stays, and the new page is the base.
 pub fn next_base(
-    work: Work,
-    rows: &[[usize; 5]],
-    keys: &[[u8; 32]],
+    work: &Work,
+    list: &[Entry],
     store: &[u8],
     page: &[u8],
     separator: &[u8; 32],
-    cut: bool,
-    cutoff: &[u8; 32],
-) -> Updated
-    ensures { (let o : Changed = next_base_of 4096 work (list_of rows.now keys.now) store.now page.now separator.now cut cutoff.now in (result.refusal ≡ reply_number o.reply) × (result.work ≡ o.work)) }
+    cutoff: Option<&[u8; 32]>,
+) -> Result<Work, Refusal>
+    ensures { (let o : Changed = next_base_of 4096 work.now list.now store.now page.now separator.now (is_some cutoff.entry) (key_or_zeros cutoff.entry) in (number_of result ≡ reply_number o.reply) × (work_after work.now result ≡ o.work)) }
 {
-    let number = next_base_verdict(
-        work, rows, keys, store, page, separator, cut, cutoff, PAGE_SIZE,
-    );
-    reply_of(number, work, next_base_work(work, separator, cut, cutoff))
+    next_base_verdict(work, list, store, page, separator, cutoff, PAGE_SIZE)?;
+    Ok(next_base_work(work, separator, cutoff))
 }
 
-// The refusal that a cutoff removal earns, or 0.
-fn remove_verdict(
-    work: Work,
-    rows: &[[usize; 5]],
-    keys: &[[u8; 32]],
-    store: &[u8],
-    size: usize,
-) -> u8
+// What refuses a cutoff removal.
+fn remove_verdict(work: &Work, list: &[Entry], store: &[u8], size: usize) -> Result<(), Refusal>
     requires { PageSize size }
-    ensures { result ≡ remove_verdict size work (list_of rows.now keys.now) store.now }
+    ensures { number_of result ≡ remove_verdict size work.now list.now store.now }
 {
-    let closed = closed_verdict(work, rows, keys, store, size);
-    if closed != 0 {
-        return closed;
+    closed_verdict(work, list, store, size)?;
+    if !work.is_waiting() {
+        return Err(Refusal::OutOfTurn);
     }
-    if work.turn != 2 {
-        return OUT_OF_TURN;
-    }
-    0
+    Ok(())
 }
 
-pub fn remove_work(work: Work) -> Work
-    ensures { result ≡ remove_work work }
+pub fn remove_work(work: &Work) -> Work
+    ensures { result ≡ remove_work work.now }
 {
-    let none = [0u8; 32];
-    let mut next = work;
-    next.turn = 1;
-    next.based = 0;
-    next.low = 0;
-    next.cut = 0;
-    next.cutoff = none;
-    next
+    Work {
+        turn: 1,
+        based: 0,
+        low: 0,
+        cut: 0,
+        cutoff: [0; 32],
+        ..*work
+    }
 }
 
-// Cutoff removal: what is listed stays, and there is no base. List and store are only read.
-pub fn remove_cutoff(work: Work, rows: &[[usize; 5]], keys: &[[u8; 32]], store: &[u8]) -> Updated
-    ensures { (let o : Changed = remove_cutoff_of 4096 work (list_of rows.now keys.now) store.now in (result.refusal ≡ reply_number o.reply) × (result.work ≡ o.work)) }
+// Cutoff removal: what is listed stays, and there is no base.
+pub fn remove_cutoff(work: &Work, list: &[Entry], store: &[u8]) -> Result<Work, Refusal>
+    ensures { (let o : Changed = remove_cutoff_of 4096 work.now list.now store.now in (number_of result ≡ reply_number o.reply) × (work_after work.now result ≡ o.work)) }
 {
-    let number = remove_verdict(work, rows, keys, store, PAGE_SIZE);
-    reply_of(number, work, remove_work(work))
+    remove_verdict(work, list, store, PAGE_SIZE)?;
+    Ok(remove_work(work))
 }

@@ -25,7 +25,7 @@ use Rattle.leaf_take.specs.declared.LeafReport.{LeafReport}
 use Rattle.leaf_take.specs.Reply.{report_out}
 use Rattle.leaf_digest.specs.declared.LeafGave.{LeafGave}
 use Rattle.leaf_digest.specs.Reply.{gave_out}
-use Rattle.leaf_step.proofs.Closed.{a_page_has_4096_bytes}
+use Rattle.leaf_open.proofs.Openings.{a_page_has_4096_bytes}
 use Rattle.leaf_claim.specs.Sequence.{Call, ingest, digest, next_base, remove_cutoff, State, Happened, Course, lent, answered, gives, next, nexts, opened, happens, happenings, course_of}
 use Rattle.leaf_claim.specs.Sequence as claim
 use Rattle.leaf_claim.specs.Claim.{FormedOpening, Formed, ByTwins, Answered, Claim}

@@ -6,12 +6,11 @@ use Prim.Native.Nat.{ℕ, ◌+◌, ◌-◌, ◌≤◌, ◌<◌}
 use native.Mathlib.Omega.{arith}
 use lib.ListN.{length}
 use borrow.Author.Tests.{le-ltb}
-use Rattle.leaf_node.specs.declared.Place.{Place}
-use Rattle.leaf_node.specs.declared.Place.TheVariants.{Found, Absent}
+use Rattle.std.specs.Prelude.{Result, Ok, Err}
 use Rattle.leaf_node.specs.Record.{total}
 use Rattle.leaf_node.specs.Page.{count, run, records_between, values_size}
 use Rattle.leaf_node.specs.Search.{place_from, search_of, place_index, is_found}
-use Rattle.leaf_node.specs.Steps.{Laid, Sorted, Readable}
+use Rattle.leaf_node.specs.Good.{KeysRise}
 use Rattle.leaf_work.specs.declared.Work.{Work}
 use Rattle.leaf_work.specs.Tests.{bit}
 use Rattle.leaf_work.specs.TakingUp.{stop, drops}
@@ -58,20 +57,17 @@ module _ (w : Work) (page k : List ℕ) (n : ℕ) (b : Base w page n) where
           upto = omega (arith, b.counted, b.low_in);
           taken_few = omega arith;
           rest_few = omega arith;
-          readable = λ (e : false ≡ true). absurd (false≢true e);
+          there = λ (e : false ≡ true). absurd (false≢true e);
         }
 
   -- ---- the base has a rest
 
   module _ (h : w.low < n) where
-    pub a_rest_is_laid : Laid page n
-    a_rest_is_laid = b.laid (omega arith)
+    pub a_rest_rises : KeysRise page
+    a_rest_rises = (b.rising (omega arith)).rise
 
-    pub a_rest_rises : Sorted page n
-    a_rest_rises = b.rising (omega arith)
-
-    module _ (s : Place) (e : s ≡ search_of page w.low k) (i : ℕ) where
-      module _ (f : s ≡ Found i) where
+    module _ (s : Result ℕ ℕ) (e : s ≡ search_of page w.low k) (i : ℕ) where
+      module _ (f : s ≡ Ok i) where
         hit : (drops w page k ≡ true) × (stop w page k ≡ i)
         unfolding drops stop
         hit = (ap is_found (sym e ∙ f), ap place_index (sym e ∙ f))
@@ -95,17 +91,10 @@ module _ (w : Work) (page k : List ℕ) (n : ℕ) (b : Base w page n) where
               upto = omega (arith, q.low_is, a_found_key_is_there, b.counted);
               taken_few = omega (arith, q.taken_few, b.short);
               rest_few = omega (arith, q.rest_few, b.short);
-              readable = λ _. rw q.stop_is (readable_at);
-            }
-          where
-            readable_at : Readable page i
-            readable_at = record {
-              inside = omega (arith, a_rest_is_laid.inside, b.counted);
-              there = omega (arith, a_found_key_is_there, b.counted);
-              step = a_rest_is_laid.steps i (omega (arith, a_found_key_is_there));
+              there = λ _. rw q.stop_is (omega (arith, a_found_key_is_there, b.counted));
             }
 
-      module _ (f : s ≡ Absent i) where
+      module _ (f : s ≡ Err i) where
         miss : (drops w page k ≡ false) × (stop w page k ≡ i)
         unfolding drops stop
         miss = (ap is_found (sym e ∙ f), ap place_index (sym e ∙ f))
@@ -129,5 +118,5 @@ module _ (w : Work) (page k : List ℕ) (n : ℕ) (b : Base w page n) where
               upto = omega (arith, q.low_is, an_absent_key_is_within, b.counted);
               taken_few = omega (arith, q.taken_few, b.short);
               rest_few = omega (arith, q.rest_few, b.short);
-              readable = λ g. absurd (true≢false (sym g ∙ q.dropped_is));
+              there = λ g. absurd (true≢false (sym g ∙ q.dropped_is));
             }

@@ -1,6 +1,5 @@
--- An ingest leaves what the next one requires, so that many can be made without a check between them; and what it leaves in the rows, each of
--- which has five numbers, are the rows of its list. Assumes nothing.
-use mathlib.Core.Path.{◌≡◌, refl, sym, ap, ◌∙◌}
+-- An ingest leaves what the next one requires, so that many can be made without a check between them. Assumes nothing.
+use mathlib.Core.Path.{◌≡◌, refl, ap, ◌∙◌}
 use mathlib.Core.Bool.{Bool, true, false}
 use mathlib.Core.Option.{Option, none, some}
 use mathlib.Core.List.{List, [], ◌∷◌, ◌++◌}
@@ -10,7 +9,6 @@ use lib.Dec.{eqb, ltb}
 use lib.ListN.{length, get_or, take, drop, length-append}
 use lib.Seq.{length-take-le}
 use borrow.Author.Tests.{eqb-true, ltb-true}
-use Rattle.leaf_node.specs.Limits.{PageSize}
 use Rattle.leaf_node.specs.Page.{count, values_size}
 use Rattle.leaf_node.specs.Build.{put}
 use Rattle.leaf_node.specs.Fits.{All, nil, cons}
@@ -18,22 +16,17 @@ use Rattle.leaf_model.specs.Work.{Change, inserted}
 use Rattle.leaf_model.proofs.Lists.{all_append, all_map}
 use Rattle.leaf_work.specs.declared.Work.{Work}
 use Rattle.leaf_work.specs.declared.Entry.{Entry}
-use Rattle.leaf_work.specs.Tests.{is_set, bit}
+use Rattle.leaf_work.specs.Tests.{bit}
 use Rattle.leaf_work.specs.Lent.{blank, chunk_of, insert_at, regarded}
-use Rattle.leaf_work.specs.Flat.{entries_of, list_of, row_of, rows_after}
-use Rattle.leaf_work.specs.TakingUp.{value_of, reports, chunk_entries, insert_entries, stop, drops, low_after, new_entries}
-use Rattle.leaf_work.specs.Verdict.{lent_verdict, ingest_verdict}
+use Rattle.leaf_work.specs.TakingUp.{value_of, chunk_entries, insert_entries, stop, low_after, new_entries}
+use Rattle.leaf_work.specs.Verdict.{ingest_verdict}
 use Rattle.leaf_work.specs.Outcome as outcome
 use Rattle.leaf_work.specs.Ready.{EntryIn, Ready}
-use Rattle.leaf_work.proofs.Tests.{first_passed}
-use Rattle.leaf_work.proofs.FlatList.{rows_and_keys_agree}
 use Rattle.leaf_work.proofs.Searching.{Split, the_search_splits_the_rest}
 use Rattle.leaf_builder.proofs.Putting.{length_put}
-use Rattle.leaf_ingest.specs.declared.Ingested.{Ingested}
-use Rattle.leaf_ingest.specs.Steps.{rows_of, rows_with, Leaves, Takes}
+use Rattle.leaf_ingest.specs.Steps.{Takes}
 use Rattle.leaf_ingest.proofs.Numbers.{range_length, range_total}
-use Rattle.leaf_ingest.proofs.Splicing.{map_put, Five, rows_of_entries}
-use Rattle.leaf_ingest.proofs.Ingests.{accepted_things_take_an_ingest, Passed, passed_rows, report_number}
+use Rattle.leaf_ingest.proofs.Ingests.{Passed, passed_rows}
 
 -- ---- entries that lie in store and passed part
 
@@ -163,13 +156,8 @@ module _ (size : ℕ) (w : Work) (list : List Entry) (store page k : List ℕ) (
   an_ingest_leaves_what_the_next_one_requires = go (eqb (ingest_verdict size w list store page k c 0) 0) refl
     where
       go : (b : Bool) → eqb (ingest_verdict size w list store page k c 0) 0 ≡ b → Takes size after.work after.list after.store page
-      go true e = rw (accepted e) (record { sized = t.sized; ready = ready_again (eqb-true _ _ e); regardable = t.regardable })
+      go true e = rw (accepted e) (record { sized = t.sized; ready = ready_again (eqb-true _ _ e) })
       go false e = rw (refused e) t
-
-  -- the same of what the code leaves: what `ingest_ready` requires holds again after it
-  pub what_the_code_leaves_takes_the_next_ingest : (used : ℕ) (new : List Entry) (rows keys : List (List ℕ)) (r : Ingested) (rows' keys' : List (List ℕ)) (store' : List ℕ)
-      → Leaves (outcome.ingest_on size w list store page k c 0) used new rows keys r rows' keys' store' → Takes size r.work (list_of rows' keys') store' page
-  what_the_code_leaves_takes_the_next_ingest used new rows keys r rows' keys' store' l = rw (l.work_is, l.list_is, l.store_is) an_ingest_leaves_what_the_next_one_requires
 
   -- the next one regards the same bytes of a lent page
   pub an_ingest_keeps_what_the_work_regards : (lent : List ℕ) → regarded after.work lent ≡ regarded w lent
@@ -178,49 +166,3 @@ module _ (size : ℕ) (w : Work) (list : List Entry) (store page k : List ℕ) (
       go : (b : Bool) → eqb (ingest_verdict size w list store page k c 0) 0 ≡ b → regarded after.work lent ≡ regarded w lent
       go true e = rw (accepted e)
       go false e = rw (refused e)
-
--- ---- rows of five numbers
-
-module _ (size : ℕ) (w : Work) (rows keys : List (List ℕ)) (store page k : List ℕ) (c : Option Change) (q : PageSize size) (five : All Five rows) where
-  abbrev o : outcome.Ingested
-  o = outcome.ingest_of size w (list_of rows keys) store page k c
-
-  abbrev lent : ℕ
-  lent = lent_verdict size w (list_of rows keys) store page
-
-  abbrev verdict : ℕ
-  verdict = ingest_verdict size w (list_of rows keys) store (regarded w page) k c lent
-
-  abbrev added : List Entry
-  added = new_entries w (regarded w page) k c
-
-  taken : eqb verdict 0 ≡ true → o ≡ outcome.ingest_done size w (list_of rows keys) store (regarded w page) k c
-  unfolding outcome.ingest_on
-  taken e = rw (e, outcome.ingest_on)
-
-  turned_down : eqb verdict 0 ≡ false → o ≡ record { reply = outcome.IngestRefused verdict; work = w; list = list_of rows keys; store = store }
-  unfolding outcome.ingest_on
-  turned_down e = rw (e, outcome.ingest_on)
-
-  lent_accepted : verdict ≡ 0 → lent ≡ 0
-  unfolding ingest_verdict
-  lent_accepted z = (first_passed lent _ z).0
-
-  rows_are : lent ≡ 0 → put rows w.used (rows_of added) ≡ rows_of (outcome.ingest_done size w (list_of rows keys) store (regarded w page) k c).list
-  unfolding put
-  rows_are z =
-      let t = accepted_things_take_an_ingest size w (list_of rows keys) store page lent refl z q (regarded w page) refl in
-      let a = rows_and_keys_agree rows keys t.ready.list_there in
-      rw a.1 (
-      ap (λ (x : List (List ℕ)). put x w.used (rows_of added)) (sym (rows_of_entries rows keys a.0 five))
-      ∙ sym (map_put row_of (entries_of rows keys) w.used added)
-      )
-
-  pub an_ingest_leaves_the_rows_of_its_list : rows_with (outcome.ingest_number o.reply) w.used added rows ≡ rows_after (outcome.ingest_number o.reply) o.list rows
-  an_ingest_leaves_the_rows_of_its_list = go (eqb verdict 0) refl
-    where
-      go : (b : Bool) → eqb verdict 0 ≡ b → rows_with (outcome.ingest_number o.reply) w.used added rows ≡ rows_after (outcome.ingest_number o.reply) o.list rows
-      go true e =
-          let n : outcome.ingest_number (outcome.report_of size w (list_of rows keys) store (regarded w page) k c) ≡ 0 = report_number (reports (is_set w.mode) w.low (regarded w page) (stop w (regarded w page) k) (drops w (regarded w page) k)) _ _ in
-          rw (taken e, n) (rows_are (lent_accepted (eqb-true _ _ e)))
-      go false e = rw (turned_down e, rows_with, rows_after, e)

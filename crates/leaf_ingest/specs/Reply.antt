@@ -1,20 +1,26 @@
 -- The change of an ingest and its reply as enums. Document 01, "A work and its turns".
 use Rattle.std.proofs.Math.Option.{Option, none, some}
-use Rattle.std.specs.Prelude.{List, ℕ}
+use Rattle.std.specs.Prelude.{List, ℕ, Result, Ok, Err}
+use Rattle.std.specs.Prelude as std
+use Rattle.refusal.specs.declared.Refusal.{Refusal}
+use Rattle.refusal.specs.Numbers.{number}
+use Rattle.leaf_node.specs.declared.Cell.{Cell}
 use Rattle.leaf_model.specs.Work.{Change}
-use Rattle.leaf_work.specs.Outcome as outcome
+use Rattle.leaf_work.specs.Outcome.{IngestReply, IngestRefused, Quiet, Reported}
 use Rattle.leaf_ingest.specs.declared.Change as taken
 use Rattle.leaf_ingest.specs.declared.Change.TheVariants.{Put, Delete}
-use Rattle.leaf_ingest.specs.declared.Report.{Report}
-use Rattle.leaf_ingest.specs.declared.Report.TheVariants.{Refused, Quiet, Reported}
 
--- "a key with a new value and flag, or a deletion": the value stands beside the change, and a deletion has none
-abbrev pub change_of : taken.Change → List ℕ → Option Change
-change_of (Put flag) value = some (record { value = value; flag = flag })
-change_of Delete value = none
+-- "a key with a new value and flag, or a deletion"
+abbrev pub change_of : taken.Change → Option Change
+change_of (Put value flag) = some (record { value = value.now; flag = flag })
+change_of Delete = none
 
--- a refusal, nothing, or "the cell's offset and length in the base page"
-abbrev pub reply_of : Report → outcome.IngestReply
-reply_of (Refused number) = outcome.IngestRefused number
-reply_of Quiet = outcome.Quiet
-reply_of (Reported offset len) = outcome.Reported offset len
+-- nothing, or "the cell's offset and length in the base page"
+abbrev pub report_of : std.Option Cell → IngestReply
+report_of std.None = Quiet
+report_of (std.Some cell) = Reported cell.offset cell.len
+
+-- the same or a refusal
+abbrev pub reply_of : Result (std.Option Cell) Refusal → IngestReply
+reply_of (Ok report) = report_of report
+reply_of (Err refusal) = IngestRefused (number refusal)

@@ -1,29 +1,22 @@
 -- What the functions below the call require and do, as plain facts. `page` is the page as the work regards it.
 -- `proofs/Ingests.antt` has what they require of all that earns no refusal.
-use Rattle.std.specs.Prelude.{◌≡◌, Bool, true, false, List, map, ℕ, ◌+◌, ◌-◌, ◌≤◌, ◌<◌, eqb, leb, length}
-use Rattle.std.proofs.Math.Option.{Option}
+use Rattle.std.proofs.Math.Option.{Option, none, some}
+use Rattle.std.specs.Prelude.{◌≡◌, Bool, true, List, ℕ, ◌+◌, ◌-◌, ◌≤◌, ◌<◌, leb, length}
 use Rattle.refusal.specs.Refusal.{accepted, out_of_turn, long_value, key_too_low, key_past_cutoff, list_full, store_full}
 use Rattle.leaf_node.specs.Limits.{most_page_bytes, PageSize, value_limit}
 use Rattle.leaf_node.specs.Page.{count, values_size}
-use Rattle.leaf_node.specs.Steps.{Laid, Sorted, Readable}
-use Rattle.leaf_node.specs.Build.{put}
-use Rattle.leaf_model.specs.Work.{Change, below_cutoff, inserted}
+use Rattle.leaf_node.specs.Steps.{Laid, Sorted}
+use Rattle.leaf_model.specs.Work.{Change, below_cutoff}
 use Rattle.leaf_work.specs.declared.Work.{Work}
 use Rattle.leaf_work.specs.declared.Entry.{Entry}
-use Rattle.leaf_work.specs.Tests.{is_set, bit}
+use Rattle.leaf_work.specs.Tests.{bit}
 use Rattle.leaf_work.specs.Lent.{most_entries, most_store_bytes, is_open, cutoff_of}
-use Rattle.leaf_work.specs.Flat.{list_of, row_of, keys_after}
 use Rattle.leaf_work.specs.Sound.{lets_in}
-use Rattle.leaf_work.specs.TakingUp.{value_of, entries_with, stop, drops, low_after}
+use Rattle.leaf_work.specs.TakingUp.{stop, drops, low_after}
 use Rattle.leaf_work.specs.Verdict.{unless}
 use Rattle.leaf_work.specs.Outcome as outcome
 use Rattle.leaf_work.specs.Ready.{Ready}
-use Rattle.leaf_check.specs.Settled.{Regardable}
-use Rattle.leaf_ingest.specs.declared.Change as taken
-use Rattle.leaf_ingest.specs.declared.Change.TheVariants.{Put, Delete}
 use Rattle.leaf_ingest.specs.declared.Kept.{Kept}
-use Rattle.leaf_ingest.specs.declared.Ingested.{Ingested}
-use Rattle.leaf_ingest.specs.Reply.{reply_of}
 
 -- ---- what a key takes up of the base
 
@@ -57,7 +50,7 @@ pub record Taken (w : Work) (page k : List ℕ) (z : Kept) : Type 0 where
   pub upto : z.low ≤ count page
   pub taken_few : z.taken ≤ most_page_bytes
   pub rest_few : z.rest ≤ most_page_bytes
-  pub readable : z.dropped ≡ true → Readable page z.stop
+  pub there : z.dropped ≡ true → z.stop < count page
 
 -- ---- the number
 
@@ -87,66 +80,19 @@ room_verdict w z n added len entries bytes =
 unfoldable pub step_verdict : ℕ → Work → Kept → ℕ → List ℕ → ℕ → ℕ → ℕ → ℕ → ℕ
 step_verdict size w z n k added len entries bytes = key_verdict size w k len (room_verdict w z n added len entries bytes)
 
--- what an ingest's number is found from: a work that passed Nos. 1 to 8, with its base
-pub record Admits (size : ℕ) (w : Work) (page : List ℕ) : Type 0 where
-  pub sized : PageSize size
-  pub regardable : Regardable size page
-  pub base : Base w page (count page)
-  pub count_few : w.count ≤ most_entries
-  pub bytes_few : w.bytes ≤ most_store_bytes
-
 -- how many records a change lists
-abbrev pub added_by : taken.Change → ℕ
-added_by (Put flag) = 1
-added_by Delete = 0
-
--- ---- what it writes
-
-abbrev pub rows_of : List Entry → List (List ℕ)
-rows_of es = map row_of es
-
-abbrev pub keys_of : List Entry → List (List ℕ)
-keys_of es = map (λ e. e.key) es
+abbrev pub added_by : Option Change → ℕ
+added_by (some c) = 1
+added_by none = 0
 
 -- the work record after an ingest, by what the key takes up
 abbrev pub ingest_work_by : Work → List ℕ → Kept → ℕ → ℕ → ℕ → Work
 ingest_work_by w k z used added len =
     outcome.taken_work w k z.low used (w.filled + len) (w.count + (z.stop - w.low) + added) (w.bytes + z.taken + len)
 
--- room for what an accepted ingest writes
-pub record Room (w : Work) (page : List ℕ) (z : Kept) (added len : ℕ) (rows keys : List (List ℕ)) (store : List ℕ) : Type 0 where
-  pub sizes : Sizes w z added
-  pub readable : z.dropped ≡ true → Readable page z.stop
-  pub as_many : length rows ≡ length keys
-  pub list_room : w.used + (z.stop - w.low) + added ≤ length rows
-  pub store_room : w.filled + len ≤ length store
-  pub store_short : length store ≤ most_store_bytes
+-- ---- an ingest that is not checked again
 
--- an accepted ingest
-pub record Stepped (w : Work) (page k : List ℕ) (z : Kept) (c : Option Change) (rows keys : List (List ℕ)) (store : List ℕ) (r : Ingested) (rows' keys' : List (List ℕ)) (store' : List ℕ) : Type 0 where
-  pub reply_is : reply_of r.reply ≡ outcome.report_by (is_set w.mode) w.low page z.stop z.dropped
-  pub work_is : r.work ≡ ingest_work_by w k z (w.used + length (entries_with w k z.stop z.taken c)) (length (inserted k c)) (length (value_of c))
-  pub rows_is : rows' ≡ put rows w.used (rows_of (entries_with w k z.stop z.taken c))
-  pub keys_is : keys' ≡ put keys w.used (keys_of (entries_with w k z.stop z.taken c))
-  pub store_is : store' ≡ put store w.filled (value_of c)
-
--- ---- the call
-
--- what an ingest leaves in the rows: those of its new entries stand behind the used ones where it is accepted, else what they held
-abbrev pub rows_with : ℕ → ℕ → List Entry → List (List ℕ) → List (List ℕ)
-rows_with number used new rows = elim (eqb number accepted) [ true ↦ put rows used (rows_of new) | false ↦ rows ]
-
--- what an ingest with the outcome o leaves; the list that rows and keys then stand for is that of o
-pub record Leaves (o : outcome.Ingested) (used : ℕ) (new : List Entry) (rows keys : List (List ℕ)) (r : Ingested) (rows' keys' : List (List ℕ)) (store' : List ℕ) : Type 0 where
-  pub reply_is : reply_of r.reply ≡ o.reply
-  pub work_is : r.work ≡ o.work
-  pub rows_is : rows' ≡ rows_with (outcome.ingest_number o.reply) used new rows
-  pub keys_is : keys' ≡ keys_after (outcome.ingest_number o.reply) o.list keys
-  pub store_is : store' ≡ o.store
-  pub list_is : list_of rows' keys' ≡ o.list
-
--- what an ingest that isn't checked again requires
+-- what it requires
 pub record Takes (size : ℕ) (w : Work) (list : List Entry) (store page : List ℕ) : Type 0 where
   pub sized : PageSize size
   pub ready : Ready w list store page
-  pub regardable : Regardable size page

@@ -1,46 +1,28 @@
-// The ingest call: a key with a new value, or a deletion, is taken into an open work.
+// What an ingest does of a key with a new value, or of a deletion: what it takes up of the base, what refuses it, and the work after it.
 // Ported from nomt/src/beatree/ops/update/leaf_updater.rs of thrumdev/nomt: `LeafUpdater::ingest`, `keep_up_to` and `BaseLeaf::find_key`.
 #![tactic(auto)]
 
-ghost use Rattle.std.specs.Prelude.{◌≡◌, true, ◌+◌, ◌-◌, ◌≤◌, length};
+ghost use Rattle.std.specs.Prelude.{◌≡◌, true, ◌+◌, ◌-◌, ◌≤◌, ◌<◌, length, IfOk};
+ghost use Rattle.refusal.specs.Numbers.{number_of};
 ghost use Rattle.leaf_node.specs.Limits.{PageSize};
 ghost use Rattle.leaf_node.specs.Page.{count};
-ghost use Rattle.leaf_node.specs.Build.{put};
-ghost use Rattle.leaf_node.specs.Steps.{Laid, Readable};
 ghost use Rattle.leaf_work.specs.Tests.{bit};
-ghost use Rattle.leaf_work.specs.Lent.{regarded};
-ghost use Rattle.leaf_work.specs.Flat.{list_of, keys_after};
-ghost use Rattle.leaf_work.specs.TakingUp.{value_of, chunk_entries, insert_entries, entries_with, new_entries};
-ghost use Rattle.leaf_work.specs.Outcome as outcome;
-ghost use Rattle.leaf_ingest.specs.Reply.{change_of, reply_of};
-ghost use Rattle.leaf_ingest.specs.Steps.{Base, KeptAt, Taken, Sizes, room_verdict, step_verdict, added_by, rows_of, keys_of, ingest_work_by, Room, Stepped, rows_with, Leaves, Admits, Takes};
+ghost use Rattle.leaf_work.specs.TakingUp.{value_of};
+ghost use Rattle.leaf_work.specs.Verdict.{ingest_verdict};
+ghost use Rattle.leaf_work.specs.Outcome.{report_by};
+ghost use Rattle.leaf_ingest.specs.Reply.{change_of, report_of};
+ghost use Rattle.leaf_ingest.specs.Steps.{Base, KeptAt, Taken, Sizes, Takes, room_verdict, step_verdict, added_by, ingest_work_by};
 
-use leaf_check::{lent_verdict, lets_in, records_in, regard};
-use leaf_move::bit_of;
-use leaf_node::{PAGE_SIZE, Place, cell_at, copy_in, search, size_between};
-use leaf_work::{Work, is_in_scope};
-use refusal::{KEY_PAST_CUTOFF, KEY_TOO_LOW, LIST_FULL, LONG_VALUE, OUT_OF_TURN, STORE_FULL};
+use leaf_check::lets_in;
+use leaf_node::{Cell, LeafNode};
+use leaf_work::{Entry, Work};
+use refusal::Refusal;
 
-// A new value with its flag, or a deletion. The value's bytes stand beside it; a deletion ignores them.
+// A new value with its flag, or a deletion.
 #[derive(Clone, Copy)]
-pub enum Change {
-    Put(bool),
+pub enum Change<'a> {
+    Put { value: &'a [u8], flag: bool },
     Delete,
-}
-
-// A refusal, nothing, or the offset and length of a dropped cell in the base page.
-#[derive(Clone, Copy)]
-pub enum Report {
-    Refused(u8),
-    Quiet,
-    Reported(usize, usize),
-}
-
-// The reply, and the work record after the call: of a refused call the one that it was given.
-#[derive(Clone, Copy)]
-pub struct Ingested {
-    pub reply: Report,
-    pub work: Work,
 }
 
 // What a key takes up of the base: its records up to `stop`. The one at `stop` is dropped where it has the key, and `low` is then
@@ -54,100 +36,92 @@ pub struct Kept {
     pub rest: usize,
 }
 
-// An ingest's number, 0 where it is accepted, and what its key takes up.
-#[derive(Clone, Copy)]
-pub struct Admitted {
-    pub number: u8,
-    pub kept: Kept,
-}
-
-// ---- the change
-
-// How many records a change lists.
-pub fn added(change: Change) -> usize
-    ensures { (result ≡ added_by change) × (result ≤ 1) }
-{
-    match change {
-        Change::Put(_) => 1,
-        Change::Delete => 0,
+impl<'a> Change<'a> {
+    // How many records a change lists.
+    pub fn added(self) -> usize
+        ensures { (result ≡ added_by (change_of self.entry)) × (result ≤ 1) }
+    {
+        match self {
+            Change::Put { .. } => 1,
+            Change::Delete => 0,
+        }
     }
-}
 
-// The bytes of a change; a deletion has none.
-pub fn value_of(change: Change, value: &[u8]) -> &[u8]
-    ensures { result.now ≡ value_of (change_of change value.now) }
-{
-    match change {
-        Change::Put(_) => value,
-        Change::Delete => &value[..0],
+    // The bytes of a change; a deletion has none.
+    pub fn value(self) -> &'a [u8]
+        ensures { result.now ≡ value_of (change_of self.entry) }
+    {
+        match self {
+            Change::Put { value, .. } => value,
+            Change::Delete => &[],
+        }
     }
 }
 
 // ---- what a key takes up
 
-fn kept_at(page: &[u8], n: usize, low: usize, stop: usize, dropped: bool) -> Kept
-    requires { (Laid page.now n) × (low ≤ stop) × (stop + bit dropped ≤ n) }
-    ensures { KeptAt page.now n low stop dropped result }
+fn kept_at(node: LeafNode, low: usize, stop: usize, dropped: bool) -> Kept
+    requires { (low ≤ stop) × (stop + bit dropped ≤ node.n) }
+    ensures { KeptAt node.entry.page.now node.entry.n low stop dropped result }
 {
-    let next = stop + bit_of(dropped);
+    let next = stop + usize::from(dropped);
     Kept {
-        stop: stop,
-        dropped: dropped,
+        stop,
+        dropped,
         low: next,
-        taken: size_between(page, n, low, stop),
-        rest: size_between(page, n, next, n),
+        taken: node.size_between(low, stop),
+        rest: node.size_between(next, node.n),
     }
 }
 
-// The base's n records are kept up to the key.
-fn keep_up_to(work: Work, page: &[u8], n: usize, key: &[u8; 32]) -> Kept
-    requires { Base work page.now n }
-    ensures { Taken work page.now key.now result }
+// The base's records are kept up to the key.
+fn keep_up_to(work: &Work, node: LeafNode, key: &[u8; 32]) -> Kept
+    requires { Base work.now node.page.now node.n }
+    ensures { Taken work.now node.entry.page.now key.now result }
 {
     let low = work.low;
-    if n <= low {
+    if node.n <= low {
         return Kept {
             stop: low,
             dropped: false,
-            low: low,
+            low,
             taken: 0,
             rest: 0,
         };
     }
-    let place = search(page, n, low, key);
-    match place {
-        Place::Found(i) => kept_at(page, n, low, i, true),
-        Place::Absent(i) => kept_at(page, n, low, i, false),
+    match node.search(low, key) {
+        Ok(i) => kept_at(node, low, i, true),
+        Err(i) => kept_at(node, low, i, false),
     }
 }
 
-// ---- the number
+// ---- what refuses it
 
-// Nos. 15 and 16 of a change that lists `added` records with `len` bytes, 0 where they have room.
+// Nos. 15 and 16 of a change that lists `added` records with `len` bytes.
 fn room_verdict(
-    work: Work,
+    work: &Work,
     kept: Kept,
     n: usize,
     added: usize,
     len: usize,
     entries: usize,
     bytes: usize,
-) -> u8
-    requires { (Sizes work kept added) × (kept.low ≤ n) × (n ≤ 32767) × (len ≤ 32767) }
-    ensures { result ≡ room_verdict work kept n added len entries bytes }
+) -> Result<(), Refusal>
+    requires { (Sizes work.now kept added) × (kept.low ≤ n) × (n ≤ 32767) × (len ≤ 32767) }
+    ensures { number_of result ≡ room_verdict work.now kept n added len entries bytes }
 {
     if entries < work.count + (kept.stop - work.low) + added + (n - kept.low) {
-        return LIST_FULL;
+        return Err(Refusal::ListFull);
     }
     if bytes < work.bytes + kept.taken + len + kept.rest {
-        return STORE_FULL;
+        return Err(Refusal::StoreFull);
     }
-    0
+    Ok(())
 }
 
-// Nos. 9 and 12 to 16, 0 where the key passes.
+// Nos. 9 and 12 to 16.
 fn verdict(
-    work: Work,
+    work: &Work,
     kept: Kept,
     n: usize,
     key: &[u8; 32],
@@ -156,254 +130,95 @@ fn verdict(
     entries: usize,
     bytes: usize,
     size: usize,
-) -> u8
-    requires { (PageSize size) × (Sizes work kept added) × (kept.low ≤ n) × (n ≤ 32767) }
-    ensures { result ≡ step_verdict size work kept n key.now added len entries bytes }
+) -> Result<(), Refusal>
+    requires { (PageSize size) × (Sizes work.now kept added) × (kept.low ≤ n) × (n ≤ 32767) }
+    ensures { number_of result ≡ step_verdict size work.now kept n key.now added len entries bytes }
 {
-    if work.turn != 1 {
-        return OUT_OF_TURN;
+    if !work.is_open() {
+        return Err(Refusal::OutOfTurn);
     }
     if (size - 2) / 3 - 32 < len {
-        return LONG_VALUE;
+        return Err(Refusal::LongValue);
     }
-    if !lets_in(work, key) {
-        return KEY_TOO_LOW;
+    if !lets_in(*work, key) {
+        return Err(Refusal::KeyTooLow);
     }
-    if !is_in_scope(work, key) {
-        return KEY_PAST_CUTOFF;
+    if !work.is_in_scope(key) {
+        return Err(Refusal::KeyPastCutoff);
     }
     room_verdict(work, kept, n, added, len, entries, bytes)
 }
 
-// The number of an ingest into a list with so many entries and a store of so many bytes, where the lent things earn none; and what its key
-// takes up.
+// What the key takes up, of an ingest whose lent things earn no refusal; or what refuses it.
 pub fn admit(
-    work: Work,
-    page: &[u8],
+    work: &Work,
+    list: &[Entry],
+    store: &[u8],
+    node: LeafNode,
     key: &[u8; 32],
     change: Change,
-    value: &[u8],
-    entries: usize,
-    bytes: usize,
     size: usize,
-) -> Admitted
-    requires { Admits size work page.now }
-    ensures { (result.number ≡ step_verdict size work result.kept (count page.now) key.now (added_by change) (length (value_of (change_of change value.now))) entries bytes) × (Taken work page.now key.now result.kept) }
+) -> Result<Kept, Refusal>
+    requires { Takes size work.now list.now store.now node.page.now }
+    ensures number { number_of result ≡ ingest_verdict size work.now list.now store.now node.entry.page.now key.now (change_of change.entry) 0 }
+    ensures kept { IfOk result (λ kept. Taken work.now node.entry.page.now key.now kept) }
 {
-    let n = records_in(page, size);
-    let kept = keep_up_to(work, page, n, key);
-    let new = value_of(change, value);
-    let number = verdict(
+    let kept = keep_up_to(work, node, key);
+    let added = change.added();
+    let len = change.value().len();
+    verdict(
         work,
         kept,
-        n,
+        node.n,
         key,
-        added(change),
-        new.len(),
-        entries,
-        bytes,
+        added,
+        len,
+        list.len(),
+        store.len(),
         size,
-    );
-    Admitted {
-        number: number,
-        kept: kept,
-    }
+    )?;
+    Ok(kept)
 }
 
 // ---- an accepted ingest
 
-// A chunk behind the used entries, where one is listed; the next unused entry.
-fn put_chunk(
-    rows: &mut [[usize; 5]],
-    keys: &mut [[u8; 32]],
-    at: usize,
-    low: usize,
-    stop: usize,
-    sum: usize,
-) -> usize
-    requires { (at + (stop - low) ≤ length rows.old) × (length rows.old ≡ length keys.old) }
-    ensures { (result ≡ at + length (chunk_entries low stop sum)) × (result ≤ at + (stop - low)) × (rows.new ≡ put rows.old at (rows_of (chunk_entries low stop sum))) × (keys.new ≡ put keys.old at (keys_of (chunk_entries low stop sum))) }
-{
-    if stop <= low {
-        return at;
-    }
-    let row = [2usize, 0, low, stop, sum];
-    let key = [0u8; 32];
-    rows[at] = row;
-    keys[at] = key;
-    at + 1
-}
-
-// An insert behind the used entries, where the change has one; the next unused entry.
-fn put_insert(
-    rows: &mut [[usize; 5]],
-    keys: &mut [[u8; 32]],
-    at: usize,
-    from: usize,
-    key: &[u8; 32],
-    change: Change,
-    value: &[u8],
-) -> usize
-    requires { (at + added_by change ≤ length rows.old) × (length rows.old ≡ length keys.old) × (from + length (value_of (change_of change value.now)) ≤ 65536) }
-    ensures { (result ≡ at + length (insert_entries from key.now (change_of change value.now))) × (rows.new ≡ put rows.old at (rows_of (insert_entries from key.now (change_of change value.now)))) × (keys.new ≡ put keys.old at (keys_of (insert_entries from key.now (change_of change value.now)))) }
-{
-    match change {
-        Change::Delete => at,
-        Change::Put(flag) => {
-            leaf_move::put_insert(rows, keys, at, from, from + value.len(), key, flag);
-            at + 1
-        }
-    }
-}
-
-// The new entries; the next unused one.
-fn put_entries(
-    work: Work,
-    rows: &mut [[usize; 5]],
-    keys: &mut [[u8; 32]],
-    kept: Kept,
-    key: &[u8; 32],
-    change: Change,
-    value: &[u8],
-) -> usize
-    requires { (work.low ≤ kept.stop) × (work.used + (kept.stop - work.low) + added_by change ≤ length rows.old) × (length rows.old ≡ length keys.old) × (work.filled + length (value_of (change_of change value.now)) ≤ 65536) }
-    ensures { (result ≡ work.used + length (entries_with work key.now kept.stop kept.taken (change_of change value.now))) × (rows.new ≡ put rows.old work.used (rows_of (entries_with work key.now kept.stop kept.taken (change_of change value.now)))) × (keys.new ≡ put keys.old work.used (keys_of (entries_with work key.now kept.stop kept.taken (change_of change value.now)))) }
-{
-    let at = put_chunk(rows, keys, work.used, work.low, kept.stop, kept.taken);
-    put_insert(rows, keys, at, work.filled, key, change, value)
-}
-
 // A flagged record that is dropped is reported: every one, or where one was taken up before it.
-pub fn report_of(every: bool, low: usize, page: &[u8], kept: Kept) -> Report
-    requires { kept.dropped ≡ true → Readable page.now kept.stop }
-    ensures { reply_of result ≡ outcome.report_by every low page.now kept.stop kept.dropped }
+pub fn report_of(every: bool, low: usize, node: LeafNode, kept: Kept) -> Option<Cell>
+    requires { kept.dropped ≡ true → kept.stop < node.n }
+    ensures { report_of result ≡ report_by every low node.entry.page.now kept.stop kept.dropped }
 {
     if !kept.dropped {
-        return Report::Quiet;
+        return None;
     }
     if !every & (kept.stop <= low) {
-        return Report::Quiet;
+        return None;
     }
-    let cell = cell_at(page, kept.stop);
+    let cell = node.cell(kept.stop);
     if cell.flag {
-        return Report::Reported(cell.offset, cell.len);
+        return Some(cell);
     }
-    Report::Quiet
+    None
 }
 
 pub fn ingest_work(
-    work: Work,
+    work: &Work,
     key: &[u8; 32],
     kept: Kept,
     used: usize,
     added: usize,
     len: usize,
 ) -> Work
-    requires { (Sizes work kept added) × (work.filled + len ≤ 65536) }
-    ensures { result ≡ ingest_work_by work key.now kept used added len }
+    requires { (Sizes work.now kept added) × (work.now.filled + len ≤ 65536) }
+    ensures { result ≡ ingest_work_by work.now key.now kept used added len }
 {
-    let last = *key;
-    let mut next = work;
-    next.low = kept.low;
-    next.used = used;
-    next.filled = work.filled + len;
-    next.count = work.count + (kept.stop - work.low) + added;
-    next.bytes = work.bytes + kept.taken + len;
-    next.taken = 1;
-    next.last = last;
-    next
-}
-
-fn take_in(
-    work: Work,
-    rows: &mut [[usize; 5]],
-    keys: &mut [[u8; 32]],
-    store: &mut [u8],
-    page: &[u8],
-    key: &[u8; 32],
-    change: Change,
-    value: &[u8],
-    kept: Kept,
-) -> Ingested
-    requires { Room work page.now kept (added_by change) (length (value_of (change_of change value.now))) rows.old keys.old store.old }
-    ensures { Stepped work page.now key.now kept (change_of change value.now) rows.old keys.old store.old result rows.new keys.new store.new }
-{
-    let used = put_entries(work, rows, keys, kept, key, change, value);
-    let new = value_of(change, value);
-    copy_in(new, store, work.filled);
-    let reply = report_of(work.mode != 0, work.low, page, kept);
-    let next = ingest_work(work, key, kept, used, added(change), new.len());
-    Ingested {
-        reply: reply,
-        work: next,
+    Work {
+        low: kept.low,
+        used,
+        filled: work.filled + len,
+        count: work.count + (kept.stop - work.low) + added,
+        bytes: work.bytes + kept.taken + len,
+        taken: 1,
+        last: *key,
+        ..*work
     }
-}
-
-// ---- the call
-
-// An ingest into a work whose lent things earn no refusal, so that they aren't checked again. `page` is as the work regards it.
-fn ingest_ready(
-    work: Work,
-    rows: &mut [[usize; 5]],
-    keys: &mut [[u8; 32]],
-    store: &mut [u8],
-    page: &[u8],
-    key: &[u8; 32],
-    change: Change,
-    value: &[u8],
-    size: usize,
-) -> Ingested
-    requires { Takes size work (list_of rows.old keys.old) store.old page.now }
-    ensures { Leaves (outcome.ingest_on size work (list_of rows.old keys.old) store.old page.now key.now (change_of change value.now) 0) work.used (new_entries work page.now key.now (change_of change value.now)) rows.old keys.old result rows.new keys.new store.new }
-{
-    let a = admit(
-        work,
-        page,
-        key,
-        change,
-        value,
-        rows.len(),
-        store.len(),
-        size,
-    );
-    if a.number != 0 {
-        return Ingested {
-            reply: Report::Refused(a.number),
-            work: work,
-        };
-    }
-    take_in(work, rows, keys, store, page, key, change, value, a.kept)
-}
-
-// Ingest: base records below the key become pending, an equal one is dropped, and a new value is pending behind them.
-pub fn ingest(
-    work: Work,
-    rows: &mut [[usize; 5]],
-    keys: &mut [[u8; 32]],
-    store: &mut [u8],
-    page: &[u8],
-    key: &[u8; 32],
-    change: Change,
-    value: &[u8],
-) -> Ingested
-    ensures { (let o : outcome.Ingested = outcome.ingest_of 4096 work (list_of rows.old keys.old) store.old page.now key.now (change_of change value.now) in (reply_of result.reply ≡ o.reply) × (result.work ≡ o.work) × (rows.new ≡ rows_with (outcome.ingest_number o.reply) work.used (new_entries work (regarded work page.now) key.now (change_of change value.now)) rows.old) × (keys.new ≡ keys_after (outcome.ingest_number o.reply) o.list keys.old) × (store.new ≡ o.store) × (list_of rows.new keys.new ≡ o.list)) }
-{
-    let number = lent_verdict(work, rows, keys, store, page, PAGE_SIZE);
-    if number != 0 {
-        return Ingested {
-            reply: Report::Refused(number),
-            work: work,
-        };
-    }
-    ingest_ready(
-        work,
-        rows,
-        keys,
-        store,
-        regard(work, page),
-        key,
-        change,
-        value,
-        PAGE_SIZE,
-    )
 }

@@ -2,121 +2,101 @@
 // Ported from nomt/src/beatree/ops/update/leaf_updater.rs of thrumdev/nomt: `LeafUpdater::new`.
 #![tactic(auto)]
 
-ghost use Rattle.std.specs.Prelude.{◌≡◌, cond};
+ghost use Rattle.std.specs.Prelude.{◌≡◌};
+ghost use Rattle.std.specs.Option.{is_some};
+ghost use Rattle.refusal.specs.Numbers.{number_of};
 ghost use Rattle.leaf_node.specs.Limits.{PageSize};
-ghost use Rattle.leaf_model.specs.Work.{zero_key};
-ghost use Rattle.leaf_work.specs.Tests.{bit};
-ghost use Rattle.leaf_work.specs.Flat.{list_of, rows_after, keys_after};
+ghost use Rattle.leaf_work.specs.declared.Work as declared;
 ghost use Rattle.leaf_work.specs.Verdict.{open_verdict};
 ghost use Rattle.leaf_work.specs.Outcome.{reply_number, fresh_work, Opened, open_of};
-ghost use Rattle.leaf_open.specs.Opening.{opening_of, open_base_verdict};
+ghost use Rattle.leaf_open.specs.Opening.{key_or_zeros, separator_lent, opening_lent, open_base_verdict, work_after};
 
-use leaf_base::{base_verdict, room_right};
-use leaf_move::{settle_bytes, settle_keys, settle_rows};
+use leaf_base::base_verdict;
+use leaf_check::room_right;
+use leaf_entries::blank_entry;
 use leaf_node::PAGE_SIZE;
-use leaf_work::Work;
-use refusal::{BAD_BOUNDS, ROOM_LENGTH};
+use leaf_work::{Entry, Work};
+use refusal::Refusal;
 
-// A refusal, or 0, and the work record after the call: of a refused call the one that it was given.
-#[repr(C)]
+// A base to open with: its page and its separator.
 #[derive(Clone, Copy)]
-pub struct Updated {
-    pub refusal: u8,
-    pub work: Work,
+pub struct Base<'a> {
+    pub page: &'a [u8],
+    pub separator: &'a [u8; 32],
 }
 
-// ---- flags and keys as the work record has them
-
-pub fn bit_of(flag: bool) -> u8
-    ensures { result ≡ bit flag }
+// A key as the work record has it: zeros when absent.
+pub fn key_or_zeros(key: Option<&[u8; 32]>) -> [u8; 32]
+    ensures { result ≡ key_or_zeros key.entry }
 {
-    if flag {
-        return 1;
-    }
-    0
+    key.copied().unwrap_or([0; 32])
 }
 
-pub fn key_or_zeros(there: bool, key: &[u8; 32]) -> [u8; 32]
-    ensures { result ≡ cond there key.now zero_key }
+fn separator_of<'a>(base: Option<Base<'a>>) -> Option<&'a [u8; 32]>
+    ensures { result ≡ separator_lent base.entry }
 {
-    if there {
-        return *key;
-    }
-    [0u8; 32]
+    base.map(|base| base.separator)
 }
 
-// ---- opening
-
-// The refusal that an opening's base earns, or a cutoff without one, or 0.
-pub fn open_base_verdict(
-    based: bool,
-    page: &[u8],
-    separator: &[u8; 32],
-    cut: bool,
-    cutoff: &[u8; 32],
+// What an opening's base refuses, or a cutoff without one.
+fn open_base_verdict(
+    base: Option<Base>,
+    cutoff: Option<&[u8; 32]>,
     size: usize,
-) -> u8
+) -> Result<(), Refusal>
     requires { PageSize size }
-    ensures { result ≡ open_base_verdict size based page.now separator.now cut cutoff.now }
+    ensures { number_of result ≡ open_base_verdict size base.entry cutoff.entry }
 {
-    if based {
-        return base_verdict(page, separator, cut, cutoff, size);
+    match base {
+        Some(base) => {
+            base_verdict(base.page, base.separator, cutoff, size)?;
+            Ok(())
+        }
+        None => {
+            if cutoff.is_some() {
+                return Err(Refusal::BadBounds);
+            }
+            Ok(())
+        }
     }
-    if cut {
-        return BAD_BOUNDS;
-    }
-    0
 }
 
-// The refusal that an opening earns, or 0.
+// What refuses an opening with so many entries and so many bytes of store.
 fn open_verdict(
-    based: bool,
-    page: &[u8],
-    separator: &[u8; 32],
-    cut: bool,
-    cutoff: &[u8; 32],
-    rows: &[[usize; 5]],
-    keys: &[[u8; 32]],
+    base: Option<Base>,
+    cutoff: Option<&[u8; 32]>,
+    list: &[Entry],
     store: &[u8],
     size: usize,
-) -> u8
+) -> Result<(), Refusal>
     requires { PageSize size }
-    ensures { result ≡ open_verdict size (opening_of based page.now separator.now cut cutoff.now) (list_of rows.now keys.now) store.now }
+    ensures { number_of result ≡ open_verdict size (opening_lent base.entry cutoff.entry) list.now store.now }
 {
-    let v = open_base_verdict(based, page, separator, cut, cutoff, size);
-    if v != 0 {
-        return v;
+    open_base_verdict(base, cutoff, size)?;
+    if !room_right(list.len(), store.len(), size) {
+        return Err(Refusal::RoomLength);
     }
-    if !room_right(rows, keys, store, size) {
-        return ROOM_LENGTH;
-    }
-    0
+    Ok(())
 }
 
 // An open work with nothing listed, in the mode that reports every dropped flagged record or in the Rust's. Without a base its separator
 // is zeros.
-pub fn fresh_work(
-    every: bool,
-    based: bool,
-    separator: &[u8; 32],
-    cut: bool,
-    cutoff: &[u8; 32],
-) -> Work
-    ensures { result ≡ fresh_work every based (cond based separator.now zero_key) cut cutoff.now }
+pub fn fresh_work(every: bool, separator: Option<&[u8; 32]>, cutoff: Option<&[u8; 32]>) -> Work
+    ensures { result ≡ fresh_work every (is_some separator.entry) (key_or_zeros separator.entry) (is_some cutoff.entry) (key_or_zeros cutoff.entry) }
 {
-    let lowest = key_or_zeros(based, separator);
+    let lowest = key_or_zeros(separator);
     Work {
         turn: 1,
-        based: bit_of(based),
-        mode: bit_of(every),
+        based: u8::from(separator.is_some()),
+        mode: u8::from(every),
         low: 0,
         used: 0,
         filled: 0,
         count: 0,
         bytes: 0,
         latest: lowest,
-        cut: bit_of(cut),
-        cutoff: key_or_zeros(cut, cutoff),
+        cut: u8::from(cutoff.is_some()),
+        cutoff: key_or_zeros(cutoff),
         over: 0,
         overriding: [0u8; 32],
         floor: lowest,
@@ -125,36 +105,18 @@ pub fn fresh_work(
     }
 }
 
-// Opening: list and store are filled with zeros.
+// Opening: list and store are filled with zeros. Whatever work the caller held is then the new one; a refused call changes nothing.
 pub fn open(
     every: bool,
-    based: bool,
-    page: &[u8],
-    separator: &[u8; 32],
-    cut: bool,
-    cutoff: &[u8; 32],
-    work: Work,
-    rows: &mut [[usize; 5]],
-    keys: &mut [[u8; 32]],
+    base: Option<Base>,
+    cutoff: Option<&[u8; 32]>,
+    list: &mut [Entry],
     store: &mut [u8],
-) -> Updated
-    ensures { (let o : Opened = open_of 4096 every (opening_of based page.now separator.now cut cutoff.now) work (list_of rows.old keys.old) store.old in (result.refusal ≡ reply_number o.reply) × (result.work ≡ o.work) × (rows.new ≡ rows_after (reply_number o.reply) o.list rows.old) × (keys.new ≡ keys_after (reply_number o.reply) o.list keys.old) × (store.new ≡ o.store)) }
+) -> Result<Work, Refusal>
+    ensures { (held : declared.Work) → (let o : Opened = open_of 4096 every (opening_lent base.entry cutoff.entry) held list.old store.old in (number_of result ≡ reply_number o.reply) × (work_after held result ≡ o.work) × (list.new ≡ o.list) × (store.new ≡ o.store)) }
 {
-    let refusal = open_verdict(
-        based, page, separator, cut, cutoff, rows, keys, store, PAGE_SIZE,
-    );
-    if refusal != 0 {
-        return Updated {
-            refusal: refusal,
-            work: work,
-        };
-    }
-    settle_rows(rows, 0);
-    settle_keys(keys, 0);
-    let all = store.len();
-    settle_bytes(store, 0, all);
-    Updated {
-        refusal: 0,
-        work: fresh_work(every, based, separator, cut, cutoff),
-    }
+    open_verdict(base, cutoff, list, store, PAGE_SIZE)?;
+    list.fill(blank_entry());
+    store.fill(0);
+    Ok(fresh_work(every, separator_of(base), cutoff))
 }

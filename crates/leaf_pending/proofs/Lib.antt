@@ -1,3 +1,3 @@
--- Laws of the places of pending records, for the proofs of the calls.
+-- Laws on plain values, for the functions' proofs.
 pub mod Walking
 pub mod Twins

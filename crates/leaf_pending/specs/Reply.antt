@@ -1,11 +1,30 @@
--- The reply of the twin call as a struct. Document 01, "Room and soundness": "A twin call answers holder, offset, length, key and flag, or the
--- refusal".
-use Rattle.std.specs.Prelude.{false, cond, List, [], ℕ, eqb, take, drop}
+-- The replies of the twin call. Document 01, "Room and soundness": "A twin call answers holder, offset, length, key and flag, or the refusal".
+use Rattle.std.specs.Prelude.{false, cond, List, [], ℕ, eqb, take, drop, Result, Ok, Err}
+use Rattle.refusal.specs.declared.Refusal.{Refusal}
 use Rattle.refusal.specs.Refusal.{accepted}
+use Rattle.refusal.specs.Numbers.{number}
 use Rattle.leaf_model.specs.Work.{zero_key}
 use Rattle.leaf_work.specs.Pending.{Holder, Store, Base, Place}
 use Rattle.leaf_work.specs.Outcome.{TwinReply, TwinRefused, Found}
+use Rattle.leaf_pending.specs.declared.Holder as code
+use Rattle.leaf_pending.specs.declared.Holder.TheVariants as holders
+use Rattle.leaf_pending.specs.declared.Place as found
 use Rattle.leaf_pending.specs.declared.TwinPlace.{TwinPlace}
+
+-- ---- the reply in the words of the definitions
+
+abbrev pub holder_of : code.Holder → Holder
+holder_of holders.Store = Store
+holder_of holders.Base = Base
+
+abbrev pub place_of : found.Place → Place
+place_of t = record { holder = holder_of t.holder; offset = t.offset; size = t.len; key = t.key; flag = t.flag }
+
+abbrev pub twin_reply : Result found.Place Refusal → TwinReply
+twin_reply (Ok t) = Found (place_of t)
+twin_reply (Err refusal) = TwinRefused (number refusal)
+
+-- ---- the reply as a struct
 
 abbrev pub holder_number : Holder → ℕ
 holder_number Store = 1

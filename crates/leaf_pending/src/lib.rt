@@ -1,27 +1,37 @@
 // The pending records, one by one: the twin call says where a record's value lies, the part call hands it back.
 #![tactic(auto)]
 
-ghost use Rattle.std.specs.Prelude.{◌≡◌, [], ◌+◌, ◌<◌, ◌≤◌, length, get_or, take, drop};
+ghost use Rattle.std.specs.Prelude.{◌≡◌, ◌+◌, ◌<◌, ◌≤◌, length, IfOk};
 ghost use Rattle.leaf_node.specs.Page.{count};
-ghost use Rattle.leaf_node.specs.Steps.{Readable};
-ghost use Rattle.leaf_work.specs.Flat.{entry_of, list_of};
-ghost use Rattle.leaf_work.specs.Pending.{in_base, chunk_places, entry_places, records_in, pending_places};
-ghost use Rattle.leaf_work.specs.Outcome.{TwinRefused, Found, nth_place, twin_of, part_of};
-ghost use Rattle.leaf_pending.specs.Reply.{twin_out, twin_part};
-ghost use Rattle.leaf_pending.specs.Steps.{Countable, Rest, EntryRead, Walk, TwinIn};
+ghost use Rattle.leaf_work.specs.Pending.{in_base, chunk_places, entry_places, records_in, pending_places, part_at};
+ghost use Rattle.leaf_work.specs.Outcome.{Found, nth_place, twin_of, part_of};
+ghost use Rattle.leaf_pending.specs.Reply.{holder_of, holder_number, place_of, twin_reply, twin_out};
+ghost use Rattle.leaf_pending.specs.Steps.{EntryRead, Walk, LiesIn};
 
-use leaf_check::{lent_verdict, regard};
-use leaf_node::{PAGE_SIZE, cell_at, copy_in, count_of, key_at};
-use leaf_work::Work;
-use refusal::NO_SUCH_INDEX;
+use leaf_check::lent_base;
+use leaf_entries::records_in_entry;
+use leaf_node::{LeafNode, PAGE_SIZE};
+use leaf_work::{Entry, Work};
+use refusal::Refusal;
 
-// Holders by number.
-pub const STORE: u8 = 1;
+// Which of the two that are lent has a pending record's value.
+#[derive(Clone, Copy, Debug, PartialEq, Eq)]
+pub enum Holder {
+    Store = 1,
+    Base = 2,
+}
 
-pub const BASE: u8 = 2;
+// A pending record: the holder of its value, and there offset and length; its flag and its key.
+#[derive(Clone, Copy)]
+pub struct Place {
+    pub holder: Holder,
+    pub flag: bool,
+    pub offset: usize,
+    pub len: usize,
+    pub key: [u8; 32],
+}
 
-// A refusal, or 0 and a pending record: its holder, and there its value's offset and length, its flag and its key. A refusal
-// has zeros in every other field.
+// The same for C: a refusal, or 0 and a pending record. A refusal has zeros in every other field.
 #[repr(C)]
 #[derive(Clone, Copy)]
 pub struct TwinPlace {
@@ -33,172 +43,137 @@ pub struct TwinPlace {
     pub key: [u8; 32],
 }
 
-pub fn refused(number: u8) -> TwinPlace
-    ensures { result ≡ twin_out (TwinRefused number) }
-{
-    TwinPlace {
-        refusal: number,
-        holder: 0,
-        flag: false,
-        offset: 0,
-        len: 0,
-        key: [0u8; 32],
+impl From<Holder> for u8 {
+    ghost from_gives = { λ holder n. n ≡ holder_number (holder_of holder) };
+
+    fn from(holder: Holder) -> u8 {
+        holder as u8
     }
 }
 
-// ---- the base
+impl From<Result<Place, Refusal>> for TwinPlace {
+    ghost from_gives = { λ reply out. out ≡ twin_out (twin_reply reply) };
 
-// How many records the page has; none where the work ignores it.
-fn records_in(page: &[u8]) -> usize
-    requires { Countable page.now }
-    ensures { result ≡ count page.now }
-{
-    if page.len() < 2 {
-        return 0;
+    fn from(reply: Result<Place, Refusal>) -> TwinPlace {
+        match reply {
+            Ok(place) => {
+                let key = place.key;
+                TwinPlace {
+                    refusal: 0,
+                    holder: u8::from(place.holder),
+                    flag: place.flag,
+                    offset: place.offset,
+                    len: place.len,
+                    key,
+                }
+            }
+            Err(refusal) => TwinPlace {
+                refusal: u8::from(refusal),
+                holder: 0,
+                flag: false,
+                offset: 0,
+                len: 0,
+                key: [0; 32],
+            },
+        }
     }
-    count_of(page)
 }
+
+// ---- the records
 
 // Record i of the base.
-fn base_record(page: &[u8], i: usize) -> TwinPlace
-    requires { Readable page.now i }
-    ensures { result ≡ twin_out (Found (in_base page.now i)) }
+fn base_record(node: LeafNode, i: usize) -> Place
+    requires { i < node.n }
+    ensures { place_of result ≡ in_base node.entry.page.now i }
 {
-    let cell = cell_at(page, i);
-    let mut key = [0u8; 32];
-    copy_in(key_at(page, i), &mut key, 0);
-    TwinPlace {
-        refusal: 0,
-        holder: BASE,
+    let cell = node.cell(i);
+    Place {
+        holder: Holder::Base,
         flag: cell.flag,
         offset: cell.offset,
         len: cell.len,
-        key: key,
+        key: *node.key(i),
     }
 }
 
 // Record i of the base's rest, which begins at `low`.
-pub fn rest_record(page: &[u8], low: usize, i: usize) -> TwinPlace
-    requires { Rest page.now low }
-    ensures { result ≡ twin_out (nth_place i (chunk_places page.now low (count page.now))) }
+fn rest_record(node: LeafNode, low: usize, i: usize) -> Result<Place, Refusal>
+    requires { low ≤ node.n }
+    ensures { twin_reply result ≡ nth_place i (chunk_places node.entry.page.now low (count node.entry.page.now)) }
 {
-    let n = records_in(page);
-    if n - low <= i {
-        return refused(NO_SUCH_INDEX);
+    if node.n - low <= i {
+        return Err(Refusal::NoSuchIndex);
     }
-    base_record(page, low + i)
-}
-
-// ---- the entries
-
-// How many records the entry in a row has, whatever its key.
-fn records_of(row: [usize; 5]) -> usize
-    requires { get_or row 2 0 ≤ get_or row 3 0 }
-    ensures { result ≡ records_in (entry_of row []) }
-{
-    if row[0] == 1 {
-        return 1;
-    }
-    row[3] - row[2]
+    Ok(base_record(node, low + i))
 }
 
 // Record i of an entry.
-pub fn entry_record(row: [usize; 5], key: [u8; 32], page: &[u8], i: usize) -> TwinPlace
-    requires { (EntryRead page.now (entry_of row key)) × (i < records_in (entry_of row key)) }
-    ensures { result ≡ twin_out (nth_place i (entry_places page.now (entry_of row key))) }
+fn entry_record(entry: &Entry, node: LeafNode, i: usize) -> Place
+    requires { (EntryRead node.n entry.now) × (i < records_in entry.now) }
+    ensures { Found (place_of result) ≡ nth_place i (entry_places node.entry.page.now entry.now) }
 {
-    if row[0] != 1 {
-        return base_record(page, row[2] + i);
+    if !entry.is_insert() {
+        return base_record(node, entry.from + i);
     }
-    TwinPlace {
-        refusal: 0,
-        holder: STORE,
-        flag: row[1] != 0,
-        offset: row[2],
-        len: row[3] - row[2],
-        key: key,
+    Place {
+        holder: Holder::Store,
+        flag: entry.flag != 0,
+        offset: entry.from,
+        len: entry.to - entry.from,
+        key: entry.key,
     }
 }
 
 // Pending record i: the entries' records, then the base's rest.
-fn pending_record(
-    work: Work,
-    rows: &[[usize; 5]],
-    keys: &[[u8; 32]],
-    page: &[u8],
-    i: usize,
-) -> TwinPlace
-    requires { Walk work (list_of rows.now keys.now) page.now }
-    ensures { result ≡ twin_out (nth_place i (pending_places work (list_of rows.now keys.now) page.now)) }
+fn pending_record(work: &Work, list: &[Entry], node: LeafNode, i: usize) -> Result<Place, Refusal>
+    requires { Walk work.now list.now node.n }
+    ensures { twin_reply result ≡ nth_place i (pending_places work.now list.now node.entry.page.now) }
 {
     let mut left = i;
-    let mut j = 0;
-    while j < work.used {
-        let row = rows[j];
-        let n = records_of(row);
+    for entry in &list[..work.used] {
+        let n = records_in_entry(entry);
         if left < n {
-            let key = keys[j];
-            return entry_record(row, key, page, left);
+            return Ok(entry_record(entry, node, left));
         }
         left -= n;
-        j += 1;
     }
-    rest_record(page, work.low, left)
-}
-
-// ---- the part
-
-fn cut(bytes: &[u8], offset: usize, len: usize) -> &[u8]
-    requires { offset + len ≤ length bytes.now }
-    ensures { result.now ≡ take len (drop offset bytes.now) }
-{
-    &bytes[offset..offset + len]
-}
-
-// The bytes at a twin's place, of whichever holds it.
-pub fn part_at<'a>(place: TwinPlace, store: &'a [u8], page: &'a [u8]) -> &'a [u8]
-    requires { TwinIn place store.now page.now }
-    ensures { result.now ≡ twin_part store.now page.now place }
-{
-    if place.holder == STORE {
-        return cut(store, place.offset, place.len);
-    }
-    if place.holder == BASE {
-        return cut(page, place.offset, place.len);
-    }
-    cut(page, 0, 0)
+    rest_record(node, work.low, left)
 }
 
 // ---- the calls
 
 // Pending record i: where its value lies, its key and its flag.
 pub fn twin(
-    work: Work,
-    rows: &[[usize; 5]],
-    keys: &[[u8; 32]],
+    work: &Work,
+    list: &[Entry],
     store: &[u8],
     page: &[u8],
     i: usize,
-) -> TwinPlace
-    ensures { result ≡ twin_out (twin_of 4096 work (list_of rows.now keys.now) store.now page.now i) }
+) -> Result<Place, Refusal>
+    ensures reply { twin_reply result ≡ twin_of 4096 work.now list.now store.now page.now i }
+    ensures place { IfOk result (λ place. LiesIn store.now page.now (place_of place)) }
 {
-    let v = lent_verdict(work, rows, keys, store, page, PAGE_SIZE);
-    if v != 0 {
-        return refused(v);
+    let node = lent_base(work, list, store, page, PAGE_SIZE)?;
+    pending_record(work, list, node, i)
+}
+
+// The bytes at a place, of whichever holds it.
+fn part_at<'a>(place: &Place, store: &'a [u8], page: &'a [u8]) -> &'a [u8]
+    requires { LiesIn store.now page.now (place_of place.now) }
+    ensures { result.now ≡ part_at store.now page.now (place_of place.now) }
+{
+    match place.holder {
+        Holder::Store => &store[place.offset..place.offset + place.len],
+        Holder::Base => &page[place.offset..place.offset + place.len],
     }
-    pending_record(work, rows, keys, regard(work, page), i)
 }
 
 // The value of pending record i, as a part of store or page; none where the twin call refuses.
-pub fn part<'a>(
-    work: Work,
-    rows: &[[usize; 5]],
-    keys: &[[u8; 32]],
-    store: &'a [u8],
-    page: &'a [u8],
-    i: usize,
-) -> &'a [u8]
-    ensures { result.now ≡ part_of 4096 work (list_of rows.now keys.now) store.now page.now i }
+pub fn part<'a>(work: &Work, list: &[Entry], store: &'a [u8], page: &'a [u8], i: usize) -> &'a [u8]
+    ensures { result.now ≡ part_of 4096 work.now list.now store.now page.now i }
 {
-    part_at(twin(work, rows, keys, store, page, i), store, page)
+    match twin(work, list, store, page, i) {
+        Ok(place) => part_at(&place, store, page),
+        Err(_) => &page[..0],
+    }
 }

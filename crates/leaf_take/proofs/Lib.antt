@@ -1,3 +1,3 @@
 -- Laws on plain values, for the functions' proofs.
-pub mod Values
 pub mod Taking
+pub mod Repeated

@@ -1,3 +1,2 @@
--- What an ingest takes and answers in numbers, and the entries that it lists.
+-- An ingest's change and reply in numbers, and what it leaves.
 pub mod Reply
-pub mod Listing

@@ -1,25 +1,23 @@
-// The ingest by value: it takes what the pass over its list came to, and answers the entries that are to be listed.
+// The ingest call: a key with a new value, or a deletion, is taken into an open work.
+// Ported from nomt/src/beatree/ops/update/leaf_updater.rs of thrumdev/nomt: `LeafUpdater::ingest`.
 #![tactic(auto)]
 
-ghost use Rattle.std.specs.Prelude.{◌≡◌, List, ◌+◌, ◌≤◌, length};
-ghost use Rattle.leaf_work.specs.declared.Entry as declared;
-ghost use Rattle.leaf_work.specs.Lent.{blank, insert_at, chunk_of};
-ghost use Rattle.leaf_work.specs.Outcome as outcome;
-ghost use Rattle.leaf_passed.specs.Passed.{beginning_of, passed_over};
+ghost use Rattle.std.specs.Prelude.{◌≡◌, ◌+◌, ◌-◌, ◌≤◌, length};
+ghost use Rattle.leaf_node.specs.Build.{put};
+ghost use Rattle.leaf_work.specs.TakingUp.{value_of, chunk_entries, insert_entries, entries_with};
+ghost use Rattle.leaf_work.specs.Outcome.{ingest_on, ingest_of};
 ghost use Rattle.leaf_ingest.specs.Reply.{change_of, reply_of};
-ghost use Rattle.leaf_ingest.specs.Steps.{Sizes, added_by};
-ghost use Rattle.leaf_step.specs.Over.{Over};
-ghost use Rattle.leaf_take.specs.Reply.{change_given, report_out};
-ghost use Rattle.leaf_take.specs.Listing.{chunk_count, place_of, flag_of, refused_step, accepted_step, Steps, TakesWithin};
+ghost use Rattle.leaf_ingest.specs.Steps.{added_by, Takes};
+ghost use Rattle.leaf_take.specs.Reply.{change_given, report_out, Leaves};
 
-use leaf_check::regard;
-use leaf_entries::{blank_entry, chunk_entry, insert_entry};
-use leaf_ingest::{Change, Kept, Report, added, admit, ingest_work, report_of, value_of};
-use leaf_node::{PAGE_SIZE, copy_in};
-use leaf_passed::{Passing, lent_at};
+use leaf_check::lent_base;
+use leaf_entries::{chunk_entry, insert_entry};
+use leaf_ingest::{Change, Kept, admit, ingest_work, report_of};
+use leaf_node::{Cell, LeafNode, PAGE_SIZE, copy_in};
 use leaf_work::{Entry, Work};
+use refusal::Refusal;
 
-// An ingest's answer: 0 or the refusal; whether a dropped cell is reported, 1 or 0, and its offset and length in the base page.
+// An ingest's answer for C: 0 or the refusal; whether a dropped cell is reported, 1 or 0, and its offset and length in the base page.
 #[repr(C)]
 #[derive(Clone, Copy)]
 pub struct LeafReport {
@@ -29,194 +27,119 @@ pub struct LeafReport {
     pub len: usize,
 }
 
-// What an ingest answers and leaves: the work record, and two entries with their places, past the list's end where there is none.
-#[derive(Clone, Copy)]
-pub struct IngestStep {
-    pub reply: LeafReport,
-    pub work: Work,
-    pub at: usize,
-    pub chunk: Entry,
-    pub next: usize,
-    pub insert: Entry,
+impl From<Result<Option<Cell>, Refusal>> for LeafReport {
+    ghost from_gives = { λ reply out. out ≡ report_out (reply_of reply) };
+
+    fn from(reply: Result<Option<Cell>, Refusal>) -> LeafReport {
+        match reply {
+            Ok(Some(cell)) => LeafReport {
+                refusal: 0,
+                reported: 1,
+                offset: cell.offset,
+                len: cell.len,
+            },
+            Ok(None) => LeafReport {
+                refusal: 0,
+                reported: 0,
+                offset: 0,
+                len: 0,
+            },
+            Err(refusal) => LeafReport {
+                refusal: u8::from(refusal),
+                reported: 0,
+                offset: 0,
+                len: 0,
+            },
+        }
+    }
 }
 
-// ---- the change and the reply
-
-pub fn change_of(put: u8, flag: u8) -> Change
-    ensures { result ≡ change_given put flag }
+// A change as C has it: with a new value and its flag where put is set, else a deletion, which ignores both.
+pub fn change_of(put: u8, flag: u8, value: &[u8]) -> Change<'_>
+    ensures { change_of result ≡ change_given put flag value.entry.now }
 {
     if put == 0 {
         return Change::Delete;
     }
-    Change::Put(flag != 0)
-}
-
-// The reply in numbers.
-pub fn report_out(reply: Report) -> LeafReport
-    ensures { result ≡ report_out (reply_of reply) }
-{
-    match reply {
-        Report::Refused(n) => LeafReport {
-            refusal: n,
-            reported: 0,
-            offset: 0,
-            len: 0,
-        },
-        Report::Quiet => LeafReport {
-            refusal: 0,
-            reported: 0,
-            offset: 0,
-            len: 0,
-        },
-        Report::Reported(offset, len) => LeafReport {
-            refusal: 0,
-            reported: 1,
-            offset: offset,
-            len: len,
-        },
+    Change::Put {
+        value,
+        flag: flag != 0,
     }
 }
 
 // ---- the entries
 
-// A refused ingest lists nothing.
-fn refused_step(work: Work, entries: usize, number: u8) -> IngestStep
-    ensures { result ≡ refused_step work entries number }
+// A chunk behind the used entries, where one is listed; the next unused entry.
+fn put_chunk(list: &mut [Entry], at: usize, low: usize, stop: usize, sum: usize) -> usize
+    requires { at + (stop - low) ≤ length list.old }
+    ensures { (result ≡ at + length (chunk_entries low stop sum)) × (result ≤ at + (stop - low)) × (list.new ≡ put list.old at (chunk_entries low stop sum)) }
 {
-    let reply = LeafReport {
-        refusal: number,
-        reported: 0,
-        offset: 0,
-        len: 0,
-    };
-    let none = blank_entry();
-    IngestStep {
-        reply: reply,
-        work: work,
-        at: entries,
-        chunk: none,
-        next: entries,
-        insert: none,
+    if stop <= low {
+        return at;
     }
+    list[at] = chunk_entry(low, stop, sum);
+    at + 1
 }
 
-// How many chunks are listed of what a key takes up: none where that is nothing.
-fn chunks(low: usize, stop: usize) -> usize
-    ensures { (result ≡ chunk_count low stop) × (result ≤ 1) }
-{
-    if low < stop {
-        return 1;
-    }
-    0
-}
-
-// Where an entry stands: behind `used` entries where it is listed, else past the end.
-fn place_of(listed: usize, used: usize, entries: usize) -> usize
-    ensures { result ≡ place_of listed used entries }
-{
-    if listed == 0 {
-        return entries;
-    }
-    used
-}
-
-// A change's flag as a number.
-fn flag_of(change: Change) -> u8
-    ensures { result ≡ flag_of change }
+// An insert behind the used entries, where the change has one; the next unused entry.
+fn put_insert(list: &mut [Entry], at: usize, from: usize, key: &[u8; 32], change: Change) -> usize
+    requires { (at + added_by (change_of change) ≤ length list.old) × (from + length (value_of (change_of change)) ≤ 65536) }
+    ensures { (result ≡ at + length (insert_entries from key.now (change_of change.entry))) × (list.new ≡ put list.old at (insert_entries from key.now (change_of change.entry))) }
 {
     match change {
-        Change::Delete => 0,
-        Change::Put(flag) => {
-            if flag {
-                return 1;
-            }
-            0
+        Change::Delete => at,
+        Change::Put { value, flag } => {
+            list[at] = insert_entry(from, from + value.len(), key, u8::from(flag));
+            at + 1
         }
     }
 }
 
-// ---- the step
-
-// An ingest that is accepted: what its key takes up is `kept`, its value has `len` bytes.
-fn accepted_step(
-    work: Work,
-    kept: Kept,
-    entries: usize,
-    key: &[u8; 32],
-    change: Change,
-    len: usize,
-    reply: LeafReport,
-) -> IngestStep
-    requires { (Sizes work kept (added_by change)) × (work.filled + len ≤ 65536) × (work.used ≤ 4096) }
-    ensures { result ≡ accepted_step work kept entries key.now change len reply }
+// The new entries; the next unused one.
+fn put_entries(work: &Work, list: &mut [Entry], kept: Kept, key: &[u8; 32], change: Change) -> usize
+    requires { (work.now.low ≤ kept.stop) × (work.now.used + (kept.stop - work.now.low) + added_by (change_of change) ≤ length list.old) × (work.now.filled + length (value_of (change_of change)) ≤ 65536) }
+    ensures { (result ≡ work.now.used + length (entries_with work.now key.now kept.stop kept.taken (change_of change.entry))) × (list.new ≡ put list.old work.now.used (entries_with work.now key.now kept.stop kept.taken (change_of change.entry))) }
 {
-    let chunk = chunks(work.low, kept.stop);
-    let put = added(change);
-    let next = work.used + chunk;
-    IngestStep {
-        reply: reply,
-        work: ingest_work(work, key, kept, next + put, put, len),
-        at: place_of(chunk, work.used, entries),
-        chunk: chunk_entry(work.low, kept.stop, kept.taken),
-        next: place_of(put, next, entries),
-        insert: insert_entry(work.filled, work.filled + len, key, flag_of(change)),
-    }
-}
-
-// An ingest into a list with so many entries whose lent things earn no refusal. `page` is as the work regards it.
-pub fn take_step(
-    work: Work,
-    entries: usize,
-    store: &mut [u8],
-    page: &[u8],
-    key: &[u8; 32],
-    change: Change,
-    value: &[u8],
-    size: usize,
-) -> IngestStep
-    requires { TakesWithin size work entries store.old page.now }
-    ensures { (list : List declared.Entry) → length list ≡ entries → Steps (outcome.ingest_on size work list store.old page.now key.now (change_of change value.now) 0) list result store.new }
-{
-    let a = admit(work, page, key, change, value, entries, store.len(), size);
-    if a.number != 0 {
-        return refused_step(work, entries, a.number);
-    }
-    let new = value_of(change, value);
-    copy_in(new, store, work.filled);
-    let reply = report_out(report_of(work.mode != 0, work.low, page, a.kept));
-    accepted_step(work, a.kept, entries, key, change, new.len(), reply)
+    let at = put_chunk(list, work.used, work.low, kept.stop, kept.taken);
+    put_insert(list, at, work.filled, key, change)
 }
 
 // ---- the call
 
-// An ingest into a work whose list has so many entries.
-pub fn ingest_step(
-    work: Work,
-    at: Passing,
-    entries: usize,
+// An ingest into a work whose lent things earn no refusal, so that they aren't checked again; the base is as the work regards it.
+pub fn take_in(
+    work: &mut Work,
+    list: &mut [Entry],
+    store: &mut [u8],
+    node: LeafNode,
+    key: &[u8; 32],
+    change: Change,
+    size: usize,
+) -> Result<Option<Cell>, Refusal>
+    requires { Takes size work.old list.old store.old node.page.now }
+    ensures { Leaves (ingest_on size work.old list.old store.old node.entry.page.now key.now (change_of change.entry) 0) result work.new list.new store.new }
+{
+    let kept = admit(work, list, store, node, key, change, size)?;
+    let used = put_entries(work, list, kept, key, change);
+    let value = change.value();
+    copy_in(value, store, work.filled);
+    let dropped = report_of(work.mode != 0, work.low, node, kept);
+    *work = ingest_work(work, key, kept, used, change.added(), value.len());
+    Ok(dropped)
+}
+
+// Ingest: base records below the key become pending, an equal one is dropped, and a new value is pending behind them. Answers the
+// dropped cell where it is to be reported.
+pub fn ingest(
+    work: &mut Work,
+    list: &mut [Entry],
     store: &mut [u8],
     page: &[u8],
     key: &[u8; 32],
-    put: u8,
-    flag: u8,
-    value: &[u8],
-) -> IngestStep
-    requires { Over work page.now at entries }
-    ensures { (list : List declared.Entry) → length list ≡ entries → at ≡ passed_over page.now (beginning_of 4096 work page.now) list → Steps (outcome.ingest_of 4096 work list store.old page.now key.now (change_of (change_given put flag) value.now)) list result store.new }
+    change: Change,
+) -> Result<Option<Cell>, Refusal>
+    ensures { Leaves (ingest_of 4096 work.old list.old store.old page.now key.now (change_of change.entry)) result work.new list.new store.new }
 {
-    let number = lent_at(work, at, entries, store, page, PAGE_SIZE);
-    if number != 0 {
-        return refused_step(work, entries, number);
-    }
-    let base = regard(work, page);
-    take_step(
-        work,
-        entries,
-        store,
-        base,
-        key,
-        change_of(put, flag),
-        value,
-        PAGE_SIZE,
-    )
+    let node = lent_base(work, list, store, page, PAGE_SIZE)?;
+    take_in(work, list, store, node, key, change, PAGE_SIZE)
 }

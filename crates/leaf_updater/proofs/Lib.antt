@@ -1,2 +1,3 @@
 -- Laws on plain values, for the functions' proofs.
 pub mod Copies
+pub mod Options

@@ -3,7 +3,8 @@
 // says which one stands for each case. `leaf_updater_c` exports each of them.
 #![tactic(auto)]
 
-ghost use Rattle.std.specs.Prelude.{◌≡◌, cond, length, List};
+ghost use Rattle.std.specs.Prelude.{◌≡◌, cond, length};
+ghost use Rattle.refusal.specs.Numbers.{number_of};
 ghost use Rattle.bit_ops.specs.Separate.{shared_bits, separate_verdict, separate_leaves};
 ghost use Rattle.leaf_node.specs.Good.{page_verdict};
 ghost use Rattle.leaf_read.specs.Reply.{key_reply, value_reply, get_reply, size_reply};
@@ -12,30 +13,22 @@ ghost use Rattle.leaf_builder.specs.Rebuild.{rebuild_verdict, rebuild_leaves};
 ghost use Rattle.leaf_work.specs.Tests.{is_set};
 ghost use Rattle.leaf_work.specs.Lent.{separator_of};
 ghost use Rattle.leaf_work.specs.Outcome.{twin_of, part_of, in_scope_of};
-ghost use Rattle.leaf_open.specs.Opening.{opening_of};
-ghost use Rattle.leaf_ingest.specs.Reply.{change_of};
+ghost use Rattle.leaf_open.specs.Opening.{opening_of, work_after};
 ghost use Rattle.leaf_pending.specs.Reply.{twin_out};
-ghost use Rattle.leaf_passed.specs.Passed.{PassingOn, beginning_of, passed_over};
 ghost use Rattle.leaf_take.specs.Reply.{change_given};
-ghost use Rattle.leaf_take.specs.Listing.{Steps};
-ghost use Rattle.leaf_step.specs.Over.{Over};
-ghost use Rattle.leaf_work.specs.declared.Entry as declared;
-ghost use Rattle.leaf_work.specs.Outcome as outcome;
 ghost use Rattle.digest.specs.Digests.{DigestSays};
 ghost use Rattle.leaf_updater.specs.Calls.{OpenSays, IngestSays, NextBaseSays, RemoveCutoffSays};
 ghost use Rattle.leaf_updater.specs.Copy.{copied_whole};
 
 use digest::digest;
+use leaf_again::{next_base, remove_cutoff};
 use leaf_digest::LeafGave;
-use leaf_entries::{drain, insert, pass_entries, seek_entries};
-use leaf_page::{LeafKey, LeafSize, LeafValue, bit};
-use leaf_passed::{Passing, begin_seek};
-use leaf_pending::TwinPlace;
-use leaf_step::{
-    next_base_step, open_step, part_step, remove_step, start, start_closed, twin_step,
-};
-use leaf_take::{IngestStep, LeafReport, ingest_step};
-use leaf_work::{Entry, Work};
+use leaf_open::{Base, open};
+use leaf_page::{LeafKey, LeafSize, LeafValue};
+use leaf_pending::{TwinPlace, twin};
+use leaf_take::{LeafReport, change_of, ingest};
+use leaf_work::{Entry, Work, key_if};
+use refusal::{Refusal, number_of};
 
 // ---- keys
 
@@ -51,7 +44,7 @@ pub fn leaf_separate(a: &[u8; 32], b: &[u8; 32], out: &mut [u8; 32]) -> u8
     ensures value { result ≡ separate_verdict a.now b.now }
     ensures out_after { out.new ≡ separate_leaves a.now b.now out.old }
 {
-    bit_ops::separate(a, b, out)
+    number_of(bit_ops::separate(a, b, out))
 }
 
 // ---- leaf pages. A refusal has its number and zeros in every other field.
@@ -60,7 +53,7 @@ pub fn leaf_separate(a: &[u8; 32], b: &[u8; 32], out: &mut [u8; 32]) -> u8
 pub fn leaf_page_check(page: &[u8]) -> u8
     ensures { result ≡ page_verdict 4096 page.now }
 {
-    leaf_node::check(page)
+    number_of(leaf_node::check(page))
 }
 
 // Key i of a page.
@@ -98,11 +91,24 @@ pub fn leaf_page_rebuild(page: &[u8], from: usize, mid: usize, to: usize, out: &
     ensures value { result ≡ rebuild_verdict 4096 page.now from mid to (length out.old) }
     ensures out_after { out.new ≡ rebuild_leaves 4096 page.now from mid to out.old }
 {
-    leaf_builder::rebuild(page, from, mid, to, out)
+    number_of(leaf_builder::rebuild(page, from, mid, to, out))
 }
 
 // ---- works. The work record is lent and changed in place; the list is a lent slice of entries. A flag is set where it is not 0. An
 // absent page, separator or cutoff is ignored, whatever stands there. A refused call changes no byte.
+
+// Keeps the work that a call answers; one that is refused leaves it as it was. Answers 0, or the refusal.
+fn settle(work: &mut Work, answer: Result<Work, Refusal>) -> u8
+    ensures { (result ≡ number_of answer) × (work.new ≡ work_after work.old answer) }
+{
+    match answer {
+        Ok(after) => {
+            *work = after;
+            0
+        }
+        Err(refusal) => u8::from(refusal),
+    }
+}
 
 // Opens a work in a mode, with a base or with none: list and store are filled with zeros. Answers 0, or the refusal.
 pub fn leaf_open(
@@ -118,47 +124,9 @@ pub fn leaf_open(
 ) -> u8
     ensures { OpenSays (is_set mode) (opening_of (is_set based) page.now separator.now (is_set cut) cutoff.now) work.old list.old store.old result work.new list.new store.new }
 {
-    let step = open_step(
-        *work,
-        list.len(),
-        store,
-        mode,
-        based,
-        page,
-        separator,
-        cut,
-        cutoff,
-    );
-    drain(list, step.from);
-    *work = step.work;
-    step.refusal
-}
-
-// The pass over all entries. Its locals need no stack once it has been made.
-#[inline(never)]
-fn passed(work: &Work, list: &[Entry], page: &[u8]) -> Passing
-    ensures { (result ≡ passed_over page.now (beginning_of 4096 work.now page.now) list.now) × (PassingOn result page.now) }
-{
-    pass_entries(list, page, start(*work, page))
-}
-
-// The ingest behind that pass. Its locals need no stack while the entries are gone through.
-#[inline(never)]
-fn ingest_at(
-    work: &Work,
-    at: &Passing,
-    entries: usize,
-    store: &mut [u8],
-    page: &[u8],
-    key: &[u8; 32],
-    put: u8,
-    flag: u8,
-    value: &[u8],
-) -> IngestStep
-    requires { Over work.now page.now at.now entries }
-    ensures { (list : List declared.Entry) → length list ≡ entries → at.now ≡ passed_over page.now (beginning_of 4096 work.now page.now) list → Steps (outcome.ingest_of 4096 work.now list store.old page.now key.now (change_of (change_given put flag) value.now)) list result store.new }
-{
-    ingest_step(*work, *at, entries, store, page, key, put, flag, value)
+    let base = (based != 0).then_some(Base { page, separator });
+    let opened = open(mode != 0, base, key_if(cut, cutoff), list, store);
+    settle(work, opened)
 }
 
 // Takes a key into an open work: with a new value and its flag where put is set, else as a deletion, which ignores both.
@@ -172,14 +140,10 @@ pub fn leaf_ingest(
     flag: u8,
     value: &[u8],
 ) -> LeafReport
-    ensures { IngestSays work.old list.old store.old page.now key.now (change_of (change_given put flag) value.now) result work.new list.new store.new }
+    ensures { IngestSays work.old list.old store.old page.now key.now (change_given put flag value.now) result work.new list.new store.new }
 {
-    let at = passed(work, list, page);
-    let step = ingest_at(work, &at, list.len(), store, page, key, put, flag, value);
-    insert(list, step.at, step.chunk);
-    insert(list, step.next, step.insert);
-    *work = step.work;
-    step.reply
+    let change = change_of(put, flag, value);
+    LeafReport::from(ingest(work, list, store, page, key, change))
 }
 
 // Gives leaves of an open work's pending records: each as a page of the area, with its ticket in the other buffer.
@@ -193,9 +157,7 @@ pub fn leaf_digest(
 ) -> LeafGave
     ensures { DigestSays work.old list.old store.old page.now area.old tickets.old result work.new list.new store.new area.new tickets.new }
 {
-    let step = digest(*work, list, store, page, area, tickets);
-    *work = step.work;
-    step.reply
+    LeafGave::from(digest(work, list, store, page, area, tickets))
 }
 
 // The next base of a work that waits, or is done and has a cutoff. Answers 0, or the refusal.
@@ -210,42 +172,30 @@ pub fn leaf_next_base(
 ) -> u8
     ensures { NextBaseSays work.old list.now store.now page.now separator.now (is_set cut) cutoff.now result work.new }
 {
-    let begun = start_closed(*work);
-    let at = pass_entries(list, page, begun);
-    let step = next_base_step(*work, at, list.len(), store, page, separator, cut, cutoff);
-    *work = step.work;
-    step.refusal
+    let next = next_base(work, list, store, page, separator, key_if(cut, cutoff));
+    settle(work, next)
 }
 
 // Removes the cutoff of a work that waits. Answers 0, or the refusal.
 pub fn leaf_remove_cutoff(work: &mut Work, list: &[Entry], store: &[u8]) -> u8
     ensures { RemoveCutoffSays work.old list.now store.now result work.new }
 {
-    let begun = start_closed(*work);
-    let at = pass_entries(list, store, begun);
-    let step = remove_step(*work, at, list.len(), store);
-    *work = step.work;
-    step.refusal
+    let next = remove_cutoff(work, list, store);
+    settle(work, next)
 }
 
 // Pending record i: where its value lies, its key and its flag.
 pub fn leaf_twin(work: Work, list: &[Entry], store: &[u8], page: &[u8], i: usize) -> TwinPlace
     ensures { result ≡ twin_out (twin_of 4096 work list.now store.now page.now i) }
 {
-    let begun = start(work, page);
-    let at = pass_entries(list, page, begun);
-    let seek = seek_entries(list, begin_seek(i));
-    twin_step(work, at, seek, list.len(), store, page)
+    TwinPlace::from(twin(&work, list, store, page, i))
 }
 
 // The value of pending record i, as a part of store or page; none where the twin call refuses.
 pub fn part<'a>(work: Work, list: &[Entry], store: &'a [u8], page: &'a [u8], i: usize) -> &'a [u8]
     ensures { result.now ≡ part_of 4096 work list.now store.now page.now i }
 {
-    let begun = start(work, page);
-    let at = pass_entries(list, page, begun);
-    let seek = seek_entries(list, begin_seek(i));
-    part_step(work, at, seek, list.len(), store, page)
+    leaf_pending::part(&work, list, store, page, i)
 }
 
 // The value of pending record i, copied to the start of out where out has room for it. Answers the value's length; a refused
@@ -278,14 +228,14 @@ fn copy_whole(bytes: &[u8], out: &mut [u8]) -> usize
 pub fn leaf_is_in_scope(work: Work, key: &[u8; 32]) -> u8
     ensures { result ≡ cond (in_scope_of work key.now) 1 0 }
 {
-    bit(leaf_work::is_in_scope(work, key))
+    u8::from(work.is_in_scope(key))
 }
 
 // Writes the current separator into out.
 pub fn leaf_separator(work: Work, out: &mut [u8; 32])
     ensures { out.new ≡ separator_of work }
 {
-    *out = leaf_work::separator(work);
+    *out = work.separator();
 }
 
 // ======== large values and melt sheets, with what they alone use

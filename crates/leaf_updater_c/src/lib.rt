@@ -11,7 +11,6 @@ ghost use Rattle.leaf_work.specs.Tests.{is_set};
 ghost use Rattle.leaf_work.specs.Lent.{separator_of};
 ghost use Rattle.leaf_work.specs.Outcome.{twin_of, part_of, in_scope_of};
 ghost use Rattle.leaf_open.specs.Opening.{opening_of};
-ghost use Rattle.leaf_ingest.specs.Reply.{change_of};
 ghost use Rattle.leaf_pending.specs.Reply.{twin_out};
 ghost use Rattle.leaf_take.specs.Reply.{change_given};
 ghost use Rattle.digest.specs.Digests.{DigestSays};
@@ -135,7 +134,7 @@ pub extern "C" fn leaf_ingest(
     flag: u8,
     value: &[u8],
 ) -> LeafReport
-    ensures { IngestSays work.old list.old store.old page.now key.now (change_of (change_given put flag) value.now) result work.new list.new store.new }
+    ensures { IngestSays work.old list.old store.old page.now key.now (change_given put flag value.now) result work.new list.new store.new }
 {
     leaf_updater::leaf_ingest(work, list, store, page, key, put, flag, value)
 }

@@ -1,4 +1,0 @@
--- Laws on plain values, for the functions' proofs.
-pub mod Openings
-pub mod Closed
-pub mod Found

@@ -1,2 +1,0 @@
--- What the steps of the calls require of the pass over their list.
-pub mod Over
