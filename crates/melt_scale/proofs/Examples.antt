@@ -1,4 +1,5 @@
 -- Computed examples: which records are a tree's weights, and what they add up to. Assumes nothing.
+use Rattle.std.specs.Prelude.{Some}
 use mathlib.Core.Path.{◌≡◌, refl}
 use mathlib.Core.Bool.{Bool, true, false}
 use mathlib.Core.List.{List, [], ◌∷◌, ◌++◌}
@@ -28,8 +29,8 @@ pub record Weighed : Type 0 where
   pub by_24_bytes : of_tree (tree 5) (weight 6 false piece) ≡ false
   pub its_own : of_tree (tree 5) (weight 5 false piece) ≡ true
   -- "its flagged records are skipped"
-  pub flagged : weights_in (tree 5) (weight 5 true piece ∷ weight 5 false sprue ∷ []) ≡ Sprue 9 ∷ []
-  pub of_another : weights_in (tree 5) (weight 6 false piece ∷ weight 5 false piece ∷ []) ≡ Piece 7 ∷ []
+  pub flagged : weights_in (tree 5) (weight 5 true piece ∷ weight 5 false sprue ∷ []) ≡ Some (Sprue 9) ∷ []
+  pub of_another : weights_in (tree 5) (weight 6 false piece ∷ weight 5 false piece ∷ []) ≡ Some (Piece 7) ∷ []
   -- "add pieces and sprue", of all kinds
   pub old_and_new : total (weights_in (tree 5) (weight 5 false piece ∷ weight 5 false (4 ∷ 0 ∷ 0 ∷ 0 ∷ 0 ∷ 1 ∷ 0 ∷ 0 ∷ 0 ∷ []) ∷ [])) ≡ 4294967303
   pub sprues_of_both_kinds : sprues (weights_in (tree 5) (weight 5 false sprue ∷ weight 5 false (5 ∷ zeros 8) ∷ [])) ≡ 2

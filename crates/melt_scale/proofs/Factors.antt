@@ -1,4 +1,5 @@
 -- The factors of a tree all of whose weights are known are the bits of its factor records. Assumes nothing.
+use Rattle.std.specs.Prelude.{Some, None}
 use mathlib.Core.Path.{◌≡◌, refl, sym, ap, ◌∙◌}
 use mathlib.Core.Bool.{Bool, true, false, cond, ◌&&◌, true≢false, false≢true}
 use mathlib.Core.List.{List, [], ◌∷◌, ◌++◌, map}
@@ -10,7 +11,7 @@ use borrow.Author.Tests.{eqb-true, leb-true}
 use Rattle.leaf_node.specs.Record.{Record}
 use Rattle.leaf_node.specs.Fits.{All, nil, cons}
 use Rattle.leaf_model.proofs.Tests.{and_left, and_right}
-use Rattle.melt_weight.specs.declared.Weight.TheVariants.{Piece, Sprue, Factor, Unknown}
+use Rattle.melt_weight.specs.declared.Weight.TheVariants.{Piece, Sprue, Factor}
 use Rattle.melt_weight.specs.Weight.{body_of, is_kind, least_factor, most_factor, factor_of, weight_limit, limited, long_weight_of, weight_of}
 use Rattle.melt_scale.specs.Tree.{of_tree, weights_in, is_known, all_known, factors_of, factors, bits_of, factor_bits}
 
@@ -46,7 +47,7 @@ a_long_weight_is_no_factor : (v : List ℕ) → factors_of (long_weight_of v) �
 unfolding long_weight_of limited
 a_long_weight_is_no_factor v = go (is_kind 4 9 v) (is_kind 5 9 v) (leb (body_of v) weight_limit)
   where
-    go : (a b c : Bool) → factors_of (cond a (cond c (Piece (body_of v)) Unknown) (cond b (cond c (Sprue (body_of v)) Unknown) Unknown)) ≡ []
+    go : (a b c : Bool) → factors_of (cond a (cond c (Some (Piece (body_of v))) None) (cond b (cond c (Some (Sprue (body_of v))) None) None)) ≡ []
     go true b true = refl
     go true b false = refl
     go false true true = refl
@@ -61,8 +62,8 @@ a_value_is_its_bits v = go (is_kind 1 5 v) refl (is_kind 2 5 v) refl (is_kind 3 
     no_factor k l e d = rw (of_one_kind v k l e, d)
 
     go : (a : Bool) → is_kind 1 5 v ≡ a → (b : Bool) → is_kind 2 5 v ≡ b → (c : Bool) → is_kind 3 9 v ≡ c → (d : Bool) → (leb least_factor (body_of v) && leb (body_of v) most_factor) ≡ d
-        → is_known (cond a (Piece (body_of v)) (cond b (Sprue (body_of v)) (cond c (cond d (Factor (of_bits binary64 (body_of v))) Unknown) (long_weight_of v)))) ≡ true
-        → AreBits (factors_of (cond a (Piece (body_of v)) (cond b (Sprue (body_of v)) (cond c (cond d (Factor (of_bits binary64 (body_of v))) Unknown) (long_weight_of v))))) (cond c (body_of v ∷ []) [])
+        → is_known (cond a (Some (Piece (body_of v))) (cond b (Some (Sprue (body_of v))) (cond c (cond d (Some (Factor (of_bits binary64 (body_of v)))) None) (long_weight_of v)))) ≡ true
+        → AreBits (factors_of (cond a (Some (Piece (body_of v))) (cond b (Some (Sprue (body_of v))) (cond c (cond d (Some (Factor (of_bits binary64 (body_of v)))) None) (long_weight_of v))))) (cond c (body_of v ∷ []) [])
     go true ea b eb true ec d ed h = absurd (true≢false (sym ec ∙ no_factor 1 5 ea refl))
     go true ea b eb false ec d ed h = no_bits
     go false ea true eb true ec d ed h = absurd (true≢false (sym ec ∙ no_factor 2 5 eb refl))

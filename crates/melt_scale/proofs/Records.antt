@@ -1,14 +1,16 @@
 -- The records of a page, laid on the scale one after another. Assumes nothing.
-use mathlib.Core.Path.{◌≡◌, refl, sym, ap, ◌∙◌}
-use mathlib.Core.Bool.{Bool, true, false, not}
-use mathlib.Core.List.{List, ◌∷◌}
+use Rattle.std.specs.Prelude.{Option}
+use Rattle.std.specs.Cmp.Lexicographic.{pointwise}
+use lib.Dec.{eqb}
+use mathlib.Core.Path.{◌≡◌, refl, sym, ◌∙◌}
+use mathlib.Core.Bool.{Bool, true, false, not, ◌&&◌}
+use mathlib.Core.List.{List, [], ◌∷◌}
 use Prim.Native.Nat.{ℕ, suc, ◌+◌, ◌-◌, ◌≤◌, ◌<◌}
 use native.Mathlib.Nat.{add-sub_cancel_left}
 use native.Mathlib.Numerals.{add-one}
 use native.Mathlib.Omega.{arith}
-use lib.ListN.{length, get_or, take, drop, length-take, drop_of_length-le}
-use lib.Seq.{drop-cons, get_or-take}
-use borrow.Author.Tests.{eq-eqb, ne_eqb, not-true, not-false}
+use lib.ListN.{length, take, drop}
+use borrow.Author.Tests.{not-true, not-false}
 use Rattle.leaf_node.specs.Page.{count, key_at, flag_at, start, length_at, value_at, record_at, run, records_between, records}
 use Rattle.leaf_node.specs.Steps.{Readable, Laid}
 use Rattle.leaf_work.specs.Tests.{same_bytes}
@@ -21,33 +23,15 @@ use Rattle.melt_scale.proofs.Scales.{no_weight_more, more_weights, still_light}
 
 -- ---- a tree's name
 
--- the bytes from i on decide
-pub record SameFrom (key tree : List ℕ) (i : ℕ) : Type 0 where
-  pub within : i ≤ 24
-  pub same : same_bytes (drop i (take 24 key)) (drop i tree) ≡ same_bytes (take 24 key) tree
-
-pub from_the_first_byte : (key tree : List ℕ) → SameFrom key tree 0
-from_the_first_byte key tree = record { within = omega arith; same = refl }
-
-module _ (key tree : List ℕ) (h : 24 ≤ length key) (t : length tree ≡ 24) where
-  front_long : length (take 24 key) ≡ 24
-  front_long = simp length-take (omega arith)
-
-  module _ (i : ℕ) (s : SameFrom key tree i) where
-    at_byte : i < length tree → same_bytes (get_or key i 0 ∷ drop (suc i) (take 24 key)) (get_or tree i 0 ∷ drop (suc i) tree) ≡ same_bytes (take 24 key) tree
-    at_byte l =
-        let a : drop i (take 24 key) ≡ get_or key i 0 ∷ drop (suc i) (take 24 key) =
-        drop-cons (take 24 key) i 0 (omega (arith, front_long, l, t)) ∙ ap (λ (b : ℕ). b ∷ drop (suc i) (take 24 key)) (get_or-take 24 key i 0 (omega (arith, l, t))) in
-        rw (← a, ← drop-cons tree i 0 l) s.same
-
-    pub another_byte : i < length tree → (get_or key i 0 ≡ get_or tree i 0 → ⊥) → false ≡ same_bytes (take 24 key) tree
-    another_byte l ne = rw (same_bytes, ne_eqb (get_or key i 0) (get_or tree i 0) ne) at (at_byte l)
-
-    pub one_byte_more : i < length tree → get_or key i 0 ≡ get_or tree i 0 → SameFrom key tree (i + 1)
-    one_byte_more l e = record { within = omega (arith, l, t); same = rw (add-one i) (rw (same_bytes, eq-eqb (get_or key i 0) (get_or tree i 0) e) at (at_byte l)) }
-
-    pub all_bytes : length tree ≤ i → true ≡ same_bytes (take 24 key) tree
-    all_bytes l = rw (drop_of_length-le (take 24 key) {i = i} (omega (arith, front_long, l, t)), drop_of_length-le tree {i = i} l) at s.same
+pub slices_are_compared : (xs ys : List ℕ) → pointwise eqb xs ys ≡ same_bytes xs ys
+slices_are_compared [] [] = refl
+slices_are_compared [] (y ∷ ys) = refl
+slices_are_compared (x ∷ xs) [] = refl
+slices_are_compared (x ∷ xs) (y ∷ ys) = go (eqb x y) (slices_are_compared xs ys)
+  where
+    go : (b : Bool) → pointwise eqb xs ys ≡ same_bytes xs ys → (b && pointwise eqb xs ys) ≡ elim b [ true ↦ same_bytes xs ys | false ↦ false ]
+    go true h = h
+    go false h = refl
 
 -- ---- a record
 
@@ -72,7 +56,7 @@ module _ (page : List ℕ) (i : ℕ) (tree : List ℕ) (s : Scale) (l : Light re
     another_tree_is_skipped y = (rw (sym f ∙ n, ← k, sym e ∙ not-true named y), no_weight_more _ s l 1)
 
     pub the_trees_record_is_weighed : not named ≡ false → (from len : ℕ) → from ≡ start page i → len ≡ length_at page i → (value : List ℕ) → value ≡ take (from + len - from) (drop from page)
-        → (w : Weight) → w ≡ weight_of value → (t : Scale) → t ≡ weighed s w → Heavier 1 s t → (t ≡ weighed_record tree s (record_at page i)) × Heavier 1 s t
+        → (w : Option Weight) → w ≡ weight_of value → (t : Scale) → t ≡ weighed s w → Heavier 1 s t → (t ≡ weighed_record tree s (record_at page i)) × Heavier 1 s t
     unfolding record_at value_at
     the_trees_record_is_weighed y from len a b value v w q t r h =
         let d : from + len - from ≡ len = add-sub_cancel_left from len in

@@ -1,4 +1,5 @@
 -- Weights laid on the scale: no sum wraps, and the factor stays one from 1 to 32. Assumes nothing.
+use Rattle.std.specs.Prelude.{Option, Some, None}
 use mathlib.Core.Path.{◌≡◌, sym, ap, subst}
 use Prim.Native.Nat.{ℕ, ◌+◌, ◌≤◌, ◌<◌}
 use native.Mathlib.Nat.{le_refl}
@@ -6,7 +7,7 @@ use native.Mathlib.Omega.{arith}
 use lib.Dec.{lit≤}
 use lib.Ieee.{Float}
 use Rattle.melt_weight.specs.declared.Weight.{Weight}
-use Rattle.melt_weight.specs.declared.Weight.TheVariants.{Piece, Sprue, Factor, Unknown}
+use Rattle.melt_weight.specs.declared.Weight.TheVariants.{Piece, Sprue, Factor}
 use Rattle.melt_weight.specs.Weight.{least_factor, FactorRight, WeightRight}
 use Rattle.melt_weight.proofs.Factor.{bits_at_least_one, bits_at_most}
 use Rattle.melt_scale.specs.declared.Scale.{Scale}
@@ -14,28 +15,28 @@ use Rattle.melt_scale.specs.Steps.{empty_scale, weighed, record_room, page_room,
 
 -- ---- one weight
 
-module _ (s : Scale) (w : Weight) (l : Light record_room s) (r : WeightRight w) where
-  pub a_piece_fits : (n : ℕ) → w ≡ Piece n → s.total + n < 18446744073709551616
-  a_piece_fits n e = let f : n ≤ 1099511627776 = subst (λ (v : Weight). WeightRight v) e r in omega (arith, l.total, f)
+module _ (s : Scale) (w : Option Weight) (l : Light record_room s) (r : WeightRight w) where
+  pub a_piece_fits : (n : ℕ) → w ≡ Some (Piece n) → s.total + n < 18446744073709551616
+  a_piece_fits n e = let f : n ≤ 1099511627776 = subst (λ (v : Option Weight). WeightRight v) e r in omega (arith, l.total, f)
 
-  pub a_sprue_fits : (n : ℕ) → w ≡ Sprue n → s.total + n < 18446744073709551616
-  a_sprue_fits n e = let f : n ≤ 1099511627776 = subst (λ (v : Weight). WeightRight v) e r in omega (arith, l.total, f)
+  pub a_sprue_fits : (n : ℕ) → w ≡ Some (Sprue n) → s.total + n < 18446744073709551616
+  a_sprue_fits n e = let f : n ≤ 1099511627776 = subst (λ (v : Option Weight). WeightRight v) e r in omega (arith, l.total, f)
 
-  pub a_piece_is_weighed : (n : ℕ) → w ≡ Piece n → (weighed s (Piece n) ≡ weighed s w) × Heavier 1 s (weighed s (Piece n))
+  pub a_piece_is_weighed : (n : ℕ) → w ≡ Some (Piece n) → (weighed s (Some (Piece n)) ≡ weighed s w) × Heavier 1 s (weighed s (Some (Piece n)))
   a_piece_is_weighed n e =
-      let f : n ≤ 1099511627776 = subst (λ (v : Weight). WeightRight v) e r in
+      let f : n ≤ 1099511627776 = subst (λ (v : Option Weight). WeightRight v) e r in
       (ap (weighed s) (sym e), record { total = omega (arith, f); sprues = omega arith; factors = omega arith; factor = l.factor })
 
-  pub a_sprue_is_weighed : (n : ℕ) → w ≡ Sprue n → (weighed s (Sprue n) ≡ weighed s w) × Heavier 1 s (weighed s (Sprue n))
+  pub a_sprue_is_weighed : (n : ℕ) → w ≡ Some (Sprue n) → (weighed s (Some (Sprue n)) ≡ weighed s w) × Heavier 1 s (weighed s (Some (Sprue n)))
   a_sprue_is_weighed n e =
-      let f : n ≤ 1099511627776 = subst (λ (v : Weight). WeightRight v) e r in
+      let f : n ≤ 1099511627776 = subst (λ (v : Option Weight). WeightRight v) e r in
       (ap (weighed s) (sym e), record { total = omega (arith, f); sprues = omega arith; factors = omega arith; factor = l.factor })
 
-  pub a_factor_is_weighed : (x : Float) → w ≡ Factor x → (weighed s (Factor x) ≡ weighed s w) × Heavier 1 s (weighed s (Factor x))
+  pub a_factor_is_weighed : (x : Float) → w ≡ Some (Factor x) → (weighed s (Some (Factor x)) ≡ weighed s w) × Heavier 1 s (weighed s (Some (Factor x)))
   a_factor_is_weighed x e =
-      (ap (weighed s) (sym e), record { total = omega arith; sprues = omega arith; factors = omega arith; factor = subst (λ (v : Weight). WeightRight v) e r })
+      (ap (weighed s) (sym e), record { total = omega arith; sprues = omega arith; factors = omega arith; factor = subst (λ (v : Option Weight). WeightRight v) e r })
 
-  pub an_unknown_weight_is_remembered : w ≡ Unknown → (weighed s Unknown ≡ weighed s w) × Heavier 1 s (weighed s Unknown)
+  pub an_unknown_weight_is_remembered : w ≡ None → (weighed s None ≡ weighed s w) × Heavier 1 s (weighed s None)
   an_unknown_weight_is_remembered e = (ap (weighed s) (sym e), record { total = omega arith; sprues = omega arith; factors = omega arith; factor = l.factor })
 
 -- ---- several

@@ -1,4 +1,5 @@
 -- What lies on the scale behind records: the sums of the tree's weights among them. Assumes nothing.
+use Rattle.std.specs.Prelude.{Option, Some, None}
 use mathlib.Core.Path.{◌≡◌, refl, ◌∙◌}
 use mathlib.Core.Bool.{Bool, true, false, cond, ◌&&◌}
 use mathlib.Core.List.{List, [], ◌∷◌}
@@ -8,14 +9,14 @@ use lib.ListN.{length}
 use lib.Ieee.{Float}
 use Rattle.leaf_node.specs.Record.{Record}
 use Rattle.melt_weight.specs.declared.Weight.{Weight}
-use Rattle.melt_weight.specs.declared.Weight.TheVariants.{Piece, Sprue, Factor, Unknown}
+use Rattle.melt_weight.specs.declared.Weight.TheVariants.{Piece, Sprue, Factor}
 use Rattle.melt_weight.specs.Weight.{weight_of}
 use Rattle.melt_scale.specs.declared.Scale.{Scale}
 use Rattle.melt_scale.specs.Tree.{of_tree, weights_in, total, all_known, sprues, factors}
 use Rattle.melt_scale.specs.Steps.{empty_scale, weighed, weighed_all}
 
 -- weights laid on the scale one after another
-abbrev laid : Scale → List Weight → Scale
+abbrev laid : Scale → List (Option Weight) → Scale
 laid s [] = s
 laid s (w ∷ ws) = laid (weighed s w) ws
 
@@ -34,7 +35,7 @@ last_or x [] = x
 last_or x (y ∷ ys) = last_or y ys
 
 -- the scale s became t under the weights ws
-pub record Sums (s t : Scale) (ws : List Weight) : Type 0 where
+pub record Sums (s t : Scale) (ws : List (Option Weight)) : Type 0 where
   pub right : t.known ≡ (all_known ws && s.known)
   pub wax : t.total ≡ s.total + total ws
   pub sprue_count : t.sprues ≡ s.sprues + sprues ws
@@ -49,30 +50,30 @@ and_true : (b : Bool) → (b && true) ≡ b
 and_true true = refl
 and_true false = refl
 
-weights_are_summed : (s : Scale) (ws : List Weight) → Sums s (laid s ws) ws
+weights_are_summed : (s : Scale) (ws : List (Option Weight)) → Sums s (laid s ws) ws
 weights_are_summed s [] = record { right = refl; wax = omega arith; sprue_count = omega arith; factor_count = omega arith; last = refl }
-weights_are_summed s (Piece n ∷ ws) = let h = weights_are_summed (weighed s (Piece n)) ws in record {
+weights_are_summed s (Some (Piece n) ∷ ws) = let h = weights_are_summed (weighed s (Some (Piece n))) ws in record {
   right = h.right;
   wax = omega (arith, h.wax);
   sprue_count = omega (arith, h.sprue_count);
   factor_count = h.factor_count;
   last = h.last;
 }
-weights_are_summed s (Sprue n ∷ ws) = let h = weights_are_summed (weighed s (Sprue n)) ws in record {
+weights_are_summed s (Some (Sprue n) ∷ ws) = let h = weights_are_summed (weighed s (Some (Sprue n))) ws in record {
   right = h.right;
   wax = omega (arith, h.wax);
   sprue_count = omega (arith, h.sprue_count);
   factor_count = h.factor_count;
   last = h.last;
 }
-weights_are_summed s (Factor x ∷ ws) = let h = weights_are_summed (weighed s (Factor x)) ws in record {
+weights_are_summed s (Some (Factor x) ∷ ws) = let h = weights_are_summed (weighed s (Some (Factor x))) ws in record {
   right = h.right;
   wax = omega (arith, h.wax);
   sprue_count = omega (arith, h.sprue_count);
   factor_count = omega (arith, h.factor_count);
   last = h.last;
 }
-weights_are_summed s (Unknown ∷ ws) = let h = weights_are_summed (weighed s Unknown) ws in record {
+weights_are_summed s (None ∷ ws) = let h = weights_are_summed (weighed s None) ws in record {
   right = h.right ∙ and-false (all_known ws);
   wax = omega (arith, h.wax);
   sprue_count = omega (arith, h.sprue_count);
@@ -82,7 +83,7 @@ weights_are_summed s (Unknown ∷ ws) = let h = weights_are_summed (weighed s Un
 
 -- the scale t behind the records of a row
 module _ (tree : List ℕ) (rs : List Record) (t : Scale) (e : t ≡ weighed_all tree empty_scale rs) where
-  abbrev ws : List Weight
+  abbrev ws : List (Option Weight)
   ws = weights_in tree rs
 
   sums : Sums empty_scale t ws

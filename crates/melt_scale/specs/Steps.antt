@@ -1,10 +1,10 @@
 -- The scale that the weights are laid on one after another, and what the functions over it require as plain facts.
-use Rattle.std.specs.Prelude.{true, false, cond, List, [], ◌∷◌, ℕ, ◌+◌, ◌*◌, ◌≤◌}
+use Rattle.std.specs.Prelude.{true, false, cond, List, [], ◌∷◌, ℕ, ◌+◌, ◌*◌, ◌≤◌, Option, Some, None}
 use Rattle.std.specs.Float.{binary64}
 use Rattle.std.specs.Float.Ieee.{of_bits}
 use Rattle.leaf_node.specs.Record.{Record}
 use Rattle.melt_weight.specs.declared.Weight.{Weight}
-use Rattle.melt_weight.specs.declared.Weight.TheVariants.{Piece, Sprue, Factor, Unknown}
+use Rattle.melt_weight.specs.declared.Weight.TheVariants.{Piece, Sprue, Factor}
 use Rattle.melt_weight.specs.Weight.{least_factor, weight_of, FactorRight}
 use Rattle.melt_scale.specs.declared.Scale.{Scale}
 use Rattle.melt_scale.specs.Tree.{of_tree}
@@ -14,11 +14,11 @@ abbrev pub empty_scale : Scale
 empty_scale = record { known = true; total = 0; sprues = 0; factors = 0; factor = of_bits binary64 least_factor }
 
 -- one weight more
-abbrev pub weighed : Scale → Weight → Scale
-weighed s (Piece n) = record { known = s.known; total = s.total + n; sprues = s.sprues; factors = s.factors; factor = s.factor }
-weighed s (Sprue n) = record { known = s.known; total = s.total + n; sprues = s.sprues + 1; factors = s.factors; factor = s.factor }
-weighed s (Factor x) = record { known = s.known; total = s.total; sprues = s.sprues; factors = s.factors + 1; factor = x }
-weighed s Unknown = record { known = false; total = s.total; sprues = s.sprues; factors = s.factors; factor = s.factor }
+abbrev pub weighed : Scale → Option Weight → Scale
+weighed s (Some (Piece n)) = record { known = s.known; total = s.total + n; sprues = s.sprues; factors = s.factors; factor = s.factor }
+weighed s (Some (Sprue n)) = record { known = s.known; total = s.total + n; sprues = s.sprues + 1; factors = s.factors; factor = s.factor }
+weighed s (Some (Factor x)) = record { known = s.known; total = s.total; sprues = s.sprues; factors = s.factors + 1; factor = x }
+weighed s None = record { known = false; total = s.total; sprues = s.sprues; factors = s.factors; factor = s.factor }
 
 -- one record more, and a list of them
 abbrev pub weighed_record : List ℕ → Scale → Record → Scale

@@ -12,9 +12,9 @@ use leaf_node::{cell_at, count_of, key_at};
 use melt_weight::{Weight, read};
 
 // What the weights read so far come to.
-#[derive(Clone, Copy)]
+#[derive(Clone, Copy, Debug)]
 pub struct Scale {
-    // none of them was unknown
+    // none of them was unknown: the others are still added up behind one that is
     pub known: bool,
     // pieces and sprues, in milligrams
     pub total: u64,
@@ -38,39 +38,26 @@ pub fn empty() -> Scale
 }
 
 // One weight more. An unknown one is remembered, and the others are still added up.
-fn weigh(at: Scale, weight: Weight) -> Scale
+fn weigh(at: Scale, weight: Option<Weight>) -> Scale
     requires { (Light record_room at) × (WeightRight weight) }
     ensures { (result ≡ weighed at weight) × (Heavier 1 at result) }
 {
     match weight {
-        Weight::Piece(n) => Scale {
-            known: at.known,
-            total: at.total + n,
-            sprues: at.sprues,
-            factors: at.factors,
-            factor: at.factor,
+        Some(Weight::Piece(wax)) => Scale {
+            total: at.total + wax,
+            ..at
         },
-        Weight::Sprue(n) => Scale {
-            known: at.known,
-            total: at.total + n,
+        Some(Weight::Sprue(wax)) => Scale {
+            total: at.total + wax,
             sprues: at.sprues + 1,
-            factors: at.factors,
-            factor: at.factor,
+            ..at
         },
-        Weight::Factor(x) => Scale {
-            known: at.known,
-            total: at.total,
-            sprues: at.sprues,
+        Some(Weight::Factor(factor)) => Scale {
             factors: at.factors + 1,
-            factor: x,
+            factor,
+            ..at
         },
-        Weight::Unknown => Scale {
-            known: false,
-            total: at.total,
-            sprues: at.sprues,
-            factors: at.factors,
-            factor: at.factor,
-        },
+        None => Scale { known: false, ..at },
     }
 }
 
@@ -79,14 +66,7 @@ fn names(key: &[u8], tree: &[u8]) -> bool
     requires { (24 ≤ length key.now) × (length tree.now ≡ 24) }
     ensures { result ≡ same_bytes (take 24 key.now) tree.now }
 {
-    let mut i = 0;
-    while i < tree.len() {
-        if key[i] != tree[i] {
-            return false;
-        }
-        i += 1;
-    }
-    true
+    &key[..24] == tree
 }
 
 // Record i of a page, laid on the scale if it is a weight of the tree.
@@ -111,12 +91,9 @@ pub fn weigh_page(page: &[u8], tree: &[u8; 24], at: Scale) -> Scale
     requires { (Laid page.now (count page.now)) × (Light page_room at) }
     ensures { (result ≡ weighed_all tree.now at (records page.now)) × (Heavier (count page.now) at result) }
 {
-    let n = count_of(page);
     let mut s = at;
-    let mut i = 0;
-    while i < n {
+    for i in 0..count_of(page) {
         s = weigh_record(page, i, tree, s);
-        i += 1;
     }
     s
 }

@@ -1,4 +1,5 @@
 -- The sheet of a tree whose weights of 32 bits are rewritten in 64 bits is the same. Assumes nothing.
+use Rattle.std.specs.Prelude.{Option}
 use mathlib.Core.Path.{◌≡◌, refl, sym, ap, ◌∙◌}
 use mathlib.Core.Bool.{true, false}
 use mathlib.Core.List.{List, ◌∷◌}
@@ -25,7 +26,7 @@ module _ (tree : List ℕ) where
   alike : (r s : Record) (rs ss : List Record) → of_tree tree r ≡ true → of_tree tree s ≡ true → weight_of s.value ≡ weight_of r.value → weights_in tree ss ≡ weights_in tree rs
       → weights_in tree (s ∷ ss) ≡ weights_in tree (r ∷ rs)
   alike r s rs ss a b e ih =
-      taken s ss b ∙ ap (λ (w : Weight). w ∷ weights_in tree ss) e ∙ ap (λ (ws : List Weight). weight_of r.value ∷ ws) ih ∙ sym (taken r rs a)
+      taken s ss b ∙ ap (λ (w : Option Weight). w ∷ weights_in tree ss) e ∙ ap (λ (ws : List (Option Weight)). weight_of r.value ∷ ws) ih ∙ sym (taken r rs a)
 
   pub rewritten_records_have_the_same_weights : {rs ss : List Record} → Rewritten tree rs ss → weights_in tree ss ≡ weights_in tree rs
   rewritten_records_have_the_same_weights no_record = refl

@@ -1,4 +1,5 @@
 -- The sheet of every tree that isn't refused: one factor record, one rounding, the least whole milligrams. Assumes nothing.
+use Rattle.std.specs.Prelude.{Option}
 use mathlib.Core.Path.{◌≡◌, refl, sym, ap}
 use mathlib.Core.Bool.{Bool, true, false, cond}
 use mathlib.Core.List.{List, [], ◌∷◌, map}
@@ -60,7 +61,7 @@ module _ (size : ℕ) (pages : List ℕ) (separators : List (List ℕ)) (tree : 
   abbrev rs : List Record
   rs = row_records (row_of size pages separators)
 
-  abbrev ws : List Weight
+  abbrev ws : List (Option Weight)
   ws = weights_of size pages separators tree
 
   abbrev m : LeafMelt

@@ -1,4 +1,5 @@
 -- The number of a melt, one row of the table after another, and its sheet. Assumes nothing.
+use Rattle.std.specs.Prelude.{Option}
 use mathlib.Core.Path.{◌≡◌, refl, sym, ap, ◌∙◌}
 use mathlib.Core.Bool.{true, false, not, ◌&&◌}
 use mathlib.Core.List.{List, [], ◌∷◌}
@@ -9,6 +10,9 @@ use lib.Dec.{eqb, leb, lit≤}
 use lib.ListN.{length}
 use lib.Ieee.{Float}
 use borrow.Author.Tests.{eq-eqb, ne_eqb, eqb-true, lt-leb, le-leb, leb-true, not-true, not-false}
+use Rattle.refusal.specs.declared.Refusal.{Refusal}
+use Rattle.refusal.specs.Numbers.{number}
+use Rattle.refusal.proofs.Numbers.{not_accepted}
 use Rattle.leaf_model.proofs.Tests.{and_right}
 use Rattle.leaf_work.specs.Verdict.{first}
 use Rattle.leaf_work.proofs.Tests.{passed, first_zero}
@@ -56,16 +60,12 @@ the_one x (y ∷ []) e = refl
 the_one x (y ∷ z ∷ ys) e = absurd (omega (arith, e))
 
 module _ (size : ℕ) (pages : List ℕ) (separators : List (List ℕ)) (tree : List ℕ) (v : ℕ) (e : v ≡ lent_row_verdict size pages separators) where
-  abbrev ws : List Weight
+  abbrev ws : List (Option Weight)
   ws = weights_of size pages separators tree
 
-  the_rows_number : (v ≡ 0 → ⊥) → melt_verdict size pages separators tree ≡ v
+  pub a_refused_row_has_its_number : (v ≡ 0 → ⊥) → v ≡ melt_verdict size pages separators tree
   unfolding melt_verdict
-  the_rows_number n = ap (λ (x : ℕ). first x (tree_verdict ws)) (sym e) ∙ first_stays v (tree_verdict ws) n
-
-  pub a_refused_row_has_its_number : (v ≡ 0 → ⊥) → (r : LeafMelt) → r ≡ refused_melt v → r ≡ melt_of size pages separators tree
-  unfolding melt_of
-  a_refused_row_has_its_number n r q = q ∙ rw (the_rows_number n, ne_eqb v 0 n)
+  a_refused_row_has_its_number n = sym (ap (λ (x : ℕ). first x (tree_verdict ws)) (sym e) ∙ first_stays v (tree_verdict ws) n)
 
   module _ (z : v ≡ 0) (s : Scale) (a : s ≡ weighed_all tree empty_scale (row_records (row_of size pages separators))) (w : ℕ) (b : w ≡ scale_verdict s) where
     by_the_scale : w ≡ tree_verdict ws
@@ -78,9 +78,8 @@ module _ (size : ℕ) (pages : List ℕ) (separators : List (List ℕ)) (tree : 
     unfolding melt_verdict
     the_trees_number = ap (λ (x : ℕ). first x (tree_verdict ws)) (sym e) ∙ first_zero v (tree_verdict ws) z ∙ sym by_the_scale
 
-    pub a_refused_tree_has_its_number : (w ≡ 0 → ⊥) → (r : LeafMelt) → r ≡ refused_melt w → r ≡ melt_of size pages separators tree
-    unfolding melt_of
-    a_refused_tree_has_its_number n r q = q ∙ rw (the_trees_number, ne_eqb w 0 n)
+    pub the_scale_has_the_number : w ≡ melt_verdict size pages separators tree
+    the_scale_has_the_number = sym the_trees_number
 
     module _ (y : w ≡ 0) where
       one_factor : length (factors ws) ≡ 1
@@ -97,6 +96,11 @@ module _ (size : ℕ) (pages : List ℕ) (separators : List (List ℕ)) (tree : 
           let t : s.total ≡ total ws = it_has_their_total tree rs s a in
           let f : s.factor ≡ the_factor (factors ws) = it_has_the_last_factor tree rs s a ∙ the_one empty_scale.factor (factors ws) one_factor in
           q ∙ ap (λ (n : ℕ). sheet_of n s.factor) t ∙ ap (sheet_of (total ws)) f ∙ rw (the_trees_number, eq-eqb w 0 y)
+
+pub a_refusal_has_its_number_alone : (size : ℕ) (pages : List ℕ) (separators : List (List ℕ)) (tree : List ℕ) (f : Refusal) → number f ≡ melt_verdict size pages separators tree
+    → (n : ℕ) → n ≡ number f → (r : LeafMelt) → r ≡ refused_melt n → r ≡ melt_of size pages separators tree
+unfolding melt_of
+a_refusal_has_its_number_alone size pages separators tree f e n p r q = q ∙ rw (p, ← e, not_accepted f)
 
 pub the_total_is_a_float_exactly : (s : Scale) (w : ℕ) → w ≡ scale_verdict s → w ≡ 0 → s.total ≤ 2 ^ 46
 the_total_is_a_float_exactly s w b z =

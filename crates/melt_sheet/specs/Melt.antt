@@ -1,5 +1,5 @@
 -- Document 02, M-104 and M-106: "For one tree in a row, add pieces and sprue as whole milligrams, then multiply". The call whole: its refusal, or its sheet.
-use Rattle.std.specs.Prelude.{Bool, cond, ◌&&◌, List, [], ◌∷◌, ◌++◌, ℕ, eqb, leb, length, Float}
+use Rattle.std.specs.Prelude.{Bool, cond, ◌&&◌, List, [], ◌∷◌, ◌++◌, ℕ, eqb, leb, length, Float, Option}
 use Rattle.std.specs.Float.{binary64}
 use Rattle.std.specs.Float.Ieee.{of_bits}
 use Rattle.refusal.specs.Refusal.{accepted, bad_weight, odd_tree, heavy_tree}
@@ -20,16 +20,16 @@ row_records [] = []
 row_records (x ∷ xs) = records x.page ++ row_records xs
 
 -- the tree's weights in the row that pages and separators are
-abbrev pub weights_of : ℕ → List ℕ → List (List ℕ) → List ℕ → List Weight
+abbrev pub weights_of : ℕ → List ℕ → List (List ℕ) → List ℕ → List (Option Weight)
 weights_of size pages separators tree = weights_in tree (row_records (row_of size pages separators))
 
 -- "then with 19 an unflagged record of that tree with another kind, a wrong length or a factor not from 1 to 32, and then with 20 a tree without exactly
 -- one sprue and one factor"
-abbrev pub is_whole : List Weight → Bool
+abbrev pub is_whole : List (Option Weight) → Bool
 is_whole ws = eqb (sprues ws) 1 && eqb (length (factors ws)) 1
 
 -- M-106: "and with 24, after 23, a tree whose total passes 2 to the 40th, in kinds 1 and 2 as well"
-unfoldable pub tree_verdict : List Weight → ℕ
+unfoldable pub tree_verdict : List (Option Weight) → ℕ
 tree_verdict ws = unless bad_weight (all_known ws) (unless odd_tree (is_whole ws) (unless heavy_tree (leb (total ws) weight_limit) accepted))
 
 -- "It refuses a row as M-101 does, then .."
@@ -47,5 +47,5 @@ refused_melt n = record { refusal = n; total = 0; factor = of_bits binary64 0; p
 
 unfoldable pub melt_of : ℕ → List ℕ → List (List ℕ) → List ℕ → LeafMelt
 melt_of size pages separators tree =
-    let ws : List Weight = weights_of size pages separators tree in
+    let ws : List (Option Weight) = weights_of size pages separators tree in
     cond (eqb (melt_verdict size pages separators tree) accepted) (sheet_of (total ws) (the_factor (factors ws))) (refused_melt (melt_verdict size pages separators tree))

@@ -1,16 +1,17 @@
 // Document 02, M-104 and M-106: the melt sheet of a tree in a row of pages.
 #![tactic(auto)]
 
-ghost use Rattle.std.specs.Prelude.{◌≡◌};
+ghost use Rattle.std.specs.Prelude.{◌≡◌, IfOk};
+ghost use Rattle.refusal.specs.Numbers.{number_of};
 ghost use Rattle.leaf_node.specs.Limits.{PageSize};
 ghost use Rattle.row_check.specs.Verdict.{row_of};
 ghost use Rattle.melt_scale.specs.Steps.{empty_scale, weighed_all, Heavier};
-ghost use Rattle.melt_sheet.specs.Melt.{row_records, refused_melt, melt_of};
+ghost use Rattle.melt_sheet.specs.Melt.{row_records, refused_melt, melt_verdict, melt_of};
 ghost use Rattle.melt_sheet.specs.Steps.{RowRight, scale_verdict};
 
 use melt_scale::{Scale, empty, weigh_page};
 use melt_weight::{LeafMelt, MOST_WAX, melt};
-use refusal::{BAD_WEIGHT, HEAVY_TREE, ODD_TREE};
+use refusal::Refusal;
 use row_check::lent_row_verdict;
 
 // All pages of a row, s being the scale after the first i.
@@ -19,33 +20,31 @@ fn weigh_row(pages: &[u8], separators: &[[u8; 32]], tree: &[u8; 24], size: usize
     ensures { (result ≡ weighed_all tree.now empty_scale (row_records (row_of size pages.now separators.now))) × (Heavier 16384 empty_scale result) }
 {
     let mut s = empty();
-    let mut i = 0;
-    while i < separators.len() {
+    for i in 0..separators.len() {
         let from = i * size;
         let to = from + size;
         s = weigh_page(&pages[from..to], tree, s);
-        i += 1;
     }
     s
 }
 
 // Nos. 19, 20 and 24 of a tree whose weights all lie on the scale.
-fn scale_verdict(s: Scale) -> u8
-    ensures { result ≡ scale_verdict s }
+fn scale_verdict(s: Scale) -> Result<(), Refusal>
+    ensures { number_of result ≡ scale_verdict s }
 {
     if !s.known {
-        return BAD_WEIGHT;
+        return Err(Refusal::BadWeight);
     }
     if s.sprues != 1 {
-        return ODD_TREE;
+        return Err(Refusal::OddTree);
     }
     if s.factors != 1 {
-        return ODD_TREE;
+        return Err(Refusal::OddTree);
     }
     if MOST_WAX < s.total {
-        return HEAVY_TREE;
+        return Err(Refusal::HeavyTree);
     }
-    0
+    Ok(())
 }
 
 // The reply of a refused call: its number alone.
@@ -61,19 +60,30 @@ fn refused(number: u8) -> LeafMelt
     }
 }
 
+// The sheet, where neither the row nor the tree is refused.
+fn melted(
+    pages: &[u8],
+    separators: &[[u8; 32]],
+    tree: &[u8; 24],
+    size: usize,
+) -> Result<LeafMelt, Refusal>
+    requires { PageSize size }
+    ensures number { number_of result ≡ melt_verdict size pages.now separators.now tree.now }
+    ensures sheet { IfOk result (λ sheet. sheet ≡ melt_of size pages.now separators.now tree.now) }
+{
+    lent_row_verdict(pages, separators, size)?;
+    let s = weigh_row(pages, separators, tree, size);
+    scale_verdict(s)?;
+    Ok(melt(s.total, s.factor))
+}
+
 // The melt sheet of the tree that these 24 key bytes name, in a row of pages of `size` bytes.
 pub fn sheet(pages: &[u8], separators: &[[u8; 32]], tree: &[u8; 24], size: usize) -> LeafMelt
     requires { PageSize size }
     ensures { result ≡ melt_of size pages.now separators.now tree.now }
 {
-    let v = lent_row_verdict(pages, separators, size);
-    if v != 0 {
-        return refused(v);
+    match melted(pages, separators, tree, size) {
+        Ok(sheet) => sheet,
+        Err(refusal) => refused(u8::from(refusal)),
     }
-    let s = weigh_row(pages, separators, tree, size);
-    let w = scale_verdict(s);
-    if w != 0 {
-        return refused(w);
-    }
-    melt(s.total, s.factor)
 }

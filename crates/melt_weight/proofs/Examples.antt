@@ -1,34 +1,35 @@
 -- Computed examples: values read at the edges of their kinds, and products. Assumes nothing.
+use Rattle.std.specs.Prelude.{Some, None}
 use Rattle.std.proofs.Common.{◌≡◌, ℕ, ◌^◌, [], ◌∷◌, pos, refl}
 use lib.Ieee.{Float, binary64, of_bits, of_int, mul}
-use Rattle.melt_weight.specs.declared.Weight.TheVariants.{Piece, Sprue, Factor, Unknown}
+use Rattle.melt_weight.specs.declared.Weight.TheVariants.{Piece, Sprue, Factor}
 use Rattle.melt_weight.specs.Weight.{low, least_factor, most_factor, factor_of, weight_limit, limited, long_weight_of, weight_of}
 use Rattle.melt_weight.specs.Sheet.{whole_above, error_parts, digits_of, shift_of}
 
 pub record Values : Type 0 where
   -- "1, a piece's wax in milligrams (32 bits); 2, the sprue's (32 bits)", "all low byte first"
-  pub piece : weight_of (1 ∷ 1 ∷ 2 ∷ 3 ∷ 4 ∷ []) ≡ Piece 67305985
-  pub most_sprue : weight_of (2 ∷ 255 ∷ 255 ∷ 255 ∷ 255 ∷ []) ≡ Sprue 4294967295
+  pub piece : weight_of (1 ∷ 1 ∷ 2 ∷ 3 ∷ 4 ∷ []) ≡ Some (Piece 67305985)
+  pub most_sprue : weight_of (2 ∷ 255 ∷ 255 ∷ 255 ∷ 255 ∷ []) ≡ Some (Sprue 4294967295)
   -- "3, the alloy factor as a 64-bit float", from 1 to 32, both ends among them
-  pub least_factor_lem : weight_of (3 ∷ 0 ∷ 0 ∷ 0 ∷ 0 ∷ 0 ∷ 0 ∷ 240 ∷ 63 ∷ []) ≡ Factor (of_bits binary64 4607182418800017408)
-  pub most_factor_lem : weight_of (3 ∷ 0 ∷ 0 ∷ 0 ∷ 0 ∷ 0 ∷ 0 ∷ 64 ∷ 64 ∷ []) ≡ Factor (of_bits binary64 4629700416936869888)
-  pub next_below_1 : weight_of (3 ∷ 255 ∷ 255 ∷ 255 ∷ 255 ∷ 255 ∷ 255 ∷ 239 ∷ 63 ∷ []) ≡ Unknown
-  pub next_above_32 : weight_of (3 ∷ 1 ∷ 0 ∷ 0 ∷ 0 ∷ 0 ∷ 0 ∷ 64 ∷ 64 ∷ []) ≡ Unknown
-  pub no_number : weight_of (3 ∷ 0 ∷ 0 ∷ 0 ∷ 0 ∷ 0 ∷ 0 ∷ 248 ∷ 127 ∷ []) ≡ Unknown
-  pub minus_2 : weight_of (3 ∷ 0 ∷ 0 ∷ 0 ∷ 0 ∷ 0 ∷ 0 ∷ 0 ∷ 192 ∷ []) ≡ Unknown
+  pub least_factor_lem : weight_of (3 ∷ 0 ∷ 0 ∷ 0 ∷ 0 ∷ 0 ∷ 0 ∷ 240 ∷ 63 ∷ []) ≡ Some (Factor (of_bits binary64 4607182418800017408))
+  pub most_factor_lem : weight_of (3 ∷ 0 ∷ 0 ∷ 0 ∷ 0 ∷ 0 ∷ 0 ∷ 64 ∷ 64 ∷ []) ≡ Some (Factor (of_bits binary64 4629700416936869888))
+  pub next_below_1 : weight_of (3 ∷ 255 ∷ 255 ∷ 255 ∷ 255 ∷ 255 ∷ 255 ∷ 239 ∷ 63 ∷ []) ≡ None
+  pub next_above_32 : weight_of (3 ∷ 1 ∷ 0 ∷ 0 ∷ 0 ∷ 0 ∷ 0 ∷ 64 ∷ 64 ∷ []) ≡ None
+  pub no_number : weight_of (3 ∷ 0 ∷ 0 ∷ 0 ∷ 0 ∷ 0 ∷ 0 ∷ 248 ∷ 127 ∷ []) ≡ None
+  pub minus_2 : weight_of (3 ∷ 0 ∷ 0 ∷ 0 ∷ 0 ∷ 0 ∷ 0 ∷ 0 ∷ 192 ∷ []) ≡ None
   -- "another kind, a wrong length"
-  pub no_kind : weight_of [] ≡ Unknown
-  pub kind_0 : weight_of (0 ∷ 1 ∷ 0 ∷ 0 ∷ 0 ∷ []) ≡ Unknown
-  pub nine_byte_piece : weight_of (1 ∷ 1 ∷ 0 ∷ 0 ∷ 0 ∷ 0 ∷ 0 ∷ 0 ∷ 0 ∷ []) ≡ Unknown
-  pub short_factor : weight_of (3 ∷ 0 ∷ 0 ∷ 240 ∷ 63 ∷ []) ≡ Unknown
+  pub no_kind : weight_of [] ≡ None
+  pub kind_0 : weight_of (0 ∷ 1 ∷ 0 ∷ 0 ∷ 0 ∷ []) ≡ None
+  pub nine_byte_piece : weight_of (1 ∷ 1 ∷ 0 ∷ 0 ∷ 0 ∷ 0 ∷ 0 ∷ 0 ∷ 0 ∷ []) ≡ None
+  pub short_factor : weight_of (3 ∷ 0 ∷ 0 ∷ 240 ∷ 63 ∷ []) ≡ None
   -- M-106: "Kinds 4 and 5 are piece and sprue in 64 bits, each at most 2 to the 40th."
-  pub long_piece : weight_of (4 ∷ 1 ∷ 2 ∷ 3 ∷ 4 ∷ 5 ∷ 0 ∷ 0 ∷ 0 ∷ []) ≡ Piece 21542142465
-  pub long_sprue : weight_of (5 ∷ 7 ∷ 0 ∷ 0 ∷ 0 ∷ 0 ∷ 0 ∷ 0 ∷ 0 ∷ []) ≡ Sprue 7
-  pub most_piece : weight_of (4 ∷ 0 ∷ 0 ∷ 0 ∷ 0 ∷ 0 ∷ 1 ∷ 0 ∷ 0 ∷ []) ≡ Piece 1099511627776
-  pub heavy_piece : weight_of (4 ∷ 1 ∷ 0 ∷ 0 ∷ 0 ∷ 0 ∷ 1 ∷ 0 ∷ 0 ∷ []) ≡ Unknown
-  pub heavy_sprue : weight_of (5 ∷ 0 ∷ 0 ∷ 0 ∷ 0 ∷ 0 ∷ 0 ∷ 0 ∷ 1 ∷ []) ≡ Unknown
-  pub short_piece : weight_of (4 ∷ 7 ∷ 0 ∷ 0 ∷ 0 ∷ []) ≡ Unknown
-  pub kind_6 : weight_of (6 ∷ 7 ∷ 0 ∷ 0 ∷ 0 ∷ 0 ∷ 0 ∷ 0 ∷ 0 ∷ []) ≡ Unknown
+  pub long_piece : weight_of (4 ∷ 1 ∷ 2 ∷ 3 ∷ 4 ∷ 5 ∷ 0 ∷ 0 ∷ 0 ∷ []) ≡ Some (Piece 21542142465)
+  pub long_sprue : weight_of (5 ∷ 7 ∷ 0 ∷ 0 ∷ 0 ∷ 0 ∷ 0 ∷ 0 ∷ 0 ∷ []) ≡ Some (Sprue 7)
+  pub most_piece : weight_of (4 ∷ 0 ∷ 0 ∷ 0 ∷ 0 ∷ 0 ∷ 1 ∷ 0 ∷ 0 ∷ []) ≡ Some (Piece 1099511627776)
+  pub heavy_piece : weight_of (4 ∷ 1 ∷ 0 ∷ 0 ∷ 0 ∷ 0 ∷ 1 ∷ 0 ∷ 0 ∷ []) ≡ None
+  pub heavy_sprue : weight_of (5 ∷ 0 ∷ 0 ∷ 0 ∷ 0 ∷ 0 ∷ 0 ∷ 0 ∷ 1 ∷ []) ≡ None
+  pub short_piece : weight_of (4 ∷ 7 ∷ 0 ∷ 0 ∷ 0 ∷ []) ≡ None
+  pub kind_6 : weight_of (6 ∷ 7 ∷ 0 ∷ 0 ∷ 0 ∷ 0 ∷ 0 ∷ 0 ∷ 0 ∷ []) ≡ None
 
 pub values_are_read : Values
 unfolding low factor_of limited long_weight_of weight_of

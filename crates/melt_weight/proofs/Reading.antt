@@ -1,39 +1,21 @@
 -- Numbers read low byte first, and weights by kind and length. Assumes nothing.
-use Rattle.std.proofs.Common.{◌≡◌, ℕ, ◌+◌, ◌*◌, ◌<◌, ◌≤◌, Bool, true, false, cond, ◌&&◌, eqb, List, [], ◌∷◌, length, get_or, take, drop, refl, ap, ◌∙◌, add-zero, arith, length-drop, get_or-drop, take_all, drop-drop, ne_eqb, le-leb}
+use Rattle.std.specs.Prelude.{Option, Some, None}
+use Rattle.std.proofs.Common.{◌≡◌, ℕ, ◌+◌, ◌*◌, ◌<◌, ◌≤◌, Bool, true, false, cond, ◌&&◌, eqb, List, [], ◌∷◌, length, get_or, take, drop, refl, ap, ◌∙◌, add-zero, arith, length-drop, get_or-drop, take_all, ne_eqb, le-leb}
 use borrow.Author.Tests.{lt-leb}
 use Rattle.melt_weight.specs.declared.Weight.{Weight}
-use Rattle.melt_weight.specs.declared.Weight.TheVariants.{Piece, Sprue, Unknown}
+use Rattle.melt_weight.specs.declared.Weight.TheVariants.{Piece, Sprue}
 use Rattle.melt_weight.specs.Weight.{low, body_of, factor_of, is_kind, weight_limit, limited, long_weight_of, weight_of}
 
-four : (l : List ℕ) → 4 ≤ length l → get_or l 0 0 + 256 * (get_or l 1 0 + 256 * (get_or l 2 0 + 256 * get_or l 3 0)) ≡ low (take 4 l)
+four : (l : List ℕ) → get_or l 0 0 + get_or l 1 0 * 256 + get_or l 2 0 * 65536 + get_or l 3 0 * 16777216 ≡ low (take 4 l)
 unfolding low
-four (a ∷ b ∷ c ∷ d ∷ l) n = omega arith
-four [] n = absurd (omega arith)
-four (a ∷ []) n = absurd (omega arith)
-four (a ∷ b ∷ []) n = absurd (omega arith)
-four (a ∷ b ∷ c ∷ []) n = absurd (omega arith)
+four [] = refl
+four (a ∷ []) = omega arith
+four (a ∷ b ∷ []) = omega arith
+four (a ∷ b ∷ c ∷ []) = omega arith
+four (a ∷ b ∷ c ∷ d ∷ l) = omega arith
 
-eight : (l : List ℕ) → 8 ≤ length l → low (take 4 l) + 4294967296 * low (take 4 (drop 4 l)) ≡ low (take 8 l)
-unfolding low
-eight (a ∷ b ∷ c ∷ d ∷ e ∷ f ∷ g ∷ h ∷ l) n = omega arith
-eight [] n = absurd (omega arith)
-eight (a ∷ []) n = absurd (omega arith)
-eight (a ∷ b ∷ []) n = absurd (omega arith)
-eight (a ∷ b ∷ c ∷ []) n = absurd (omega arith)
-eight (a ∷ b ∷ c ∷ d ∷ []) n = absurd (omega arith)
-eight (a ∷ b ∷ c ∷ d ∷ e ∷ []) n = absurd (omega arith)
-eight (a ∷ b ∷ c ∷ d ∷ e ∷ f ∷ []) n = absurd (omega arith)
-eight (a ∷ b ∷ c ∷ d ∷ e ∷ f ∷ g ∷ []) n = absurd (omega arith)
-
-module _ (xs : List ℕ) (at : ℕ) where
-  pub four_spell : (a b c d : ℕ) → at + 4 ≤ length xs → a ≡ get_or xs at 0 → b ≡ get_or xs (at + 1) 0 → c ≡ get_or xs (at + 2) 0 → d ≡ get_or xs (at + 3) 0
-      → a + 256 * (b + 256 * (c + 256 * d)) ≡ low (take 4 (drop at xs))
-  four_spell a b c d l ea eb ec ed =
-      let first : get_or (drop at xs) 0 0 ≡ get_or xs at 0 = get_or-drop at xs 0 0 ∙ ap (λ (j : ℕ). get_or xs j 0) (add-zero at) in
-      rw (ea, eb, ec, ed, ← first, ← get_or-drop at xs 1 0, ← get_or-drop at xs 2 0, ← get_or-drop at xs 3 0) (four (drop at xs) (rw (length-drop at xs) (omega arith)))
-
-  pub two_halves : (x y : ℕ) → at + 8 ≤ length xs → x ≡ low (take 4 (drop at xs)) → y ≡ low (take 4 (drop (at + 4) xs)) → x + 4294967296 * y ≡ low (take 8 (drop at xs))
-  two_halves x y l ex ey = rw (ex, ey, ← drop-drop 4 at xs) (eight (drop at xs) (rw (length-drop at xs) (omega arith)))
+pub four_spell : (xs : List ℕ) (at : ℕ) → get_or xs at 0 + get_or xs (at + 1) 0 * 256 + get_or xs (at + 2) 0 * 65536 + get_or xs (at + 3) 0 * 16777216 ≡ low (take 4 (drop at xs))
+four_spell xs at = rw (← four (drop at xs), get_or-drop at xs 0 0, get_or-drop at xs 1 0, get_or-drop at xs 2 0, get_or-drop at xs 3 0, add-zero at) refl
 
 -- the body of a value of n + 1 bytes
 pub body_is : (n : ℕ) (v : List ℕ) → length v ≡ n + 1 → take n (drop 1 v) ≡ drop 1 v
@@ -42,39 +24,39 @@ body_is n v l = take_all n (drop 1 v) (rw (length-drop 1 v) (omega arith))
 -- ---- by length and kind
 
 module _ (v : List ℕ) where
-  pub a_piece : length v ≡ 5 → get_or v 0 0 ≡ 1 → (n : ℕ) → n ≡ low (take 4 (drop 1 v)) → Piece n ≡ weight_of v
+  pub a_piece : length v ≡ 5 → get_or v 0 0 ≡ 1 → (n : ℕ) → n ≡ low (take 4 (drop 1 v)) → Some (Piece n) ≡ weight_of v
   unfolding weight_of
   a_piece l k n e = rw (k, l, e, body_is 4 v l) refl
 
-  pub a_sprue : length v ≡ 5 → get_or v 0 0 ≡ 2 → (n : ℕ) → n ≡ low (take 4 (drop 1 v)) → Sprue n ≡ weight_of v
+  pub a_sprue : length v ≡ 5 → get_or v 0 0 ≡ 2 → (n : ℕ) → n ≡ low (take 4 (drop 1 v)) → Some (Sprue n) ≡ weight_of v
   unfolding weight_of
   a_sprue l k n e = rw (k, l, e, body_is 4 v l) refl
 
-  pub a_factor : length v ≡ 9 → get_or v 0 0 ≡ 3 → (n : ℕ) → n ≡ low (take 8 (drop 1 v)) → (w : Weight) → w ≡ factor_of n → w ≡ weight_of v
+  pub a_factor : length v ≡ 9 → get_or v 0 0 ≡ 3 → (n : ℕ) → n ≡ low (take 8 (drop 1 v)) → (w : Option Weight) → w ≡ factor_of n → w ≡ weight_of v
   unfolding weight_of
   a_factor l k n e w f = rw (f, k, l, e, body_is 8 v l) refl
 
-  pub a_long_weight : length v ≡ 9 → (get_or v 0 0 ≡ 3 → ⊥) → (w : Weight) → w ≡ long_weight_of v → w ≡ weight_of v
+  pub a_long_weight : length v ≡ 9 → (get_or v 0 0 ≡ 3 → ⊥) → (w : Option Weight) → w ≡ long_weight_of v → w ≡ weight_of v
   unfolding weight_of
   a_long_weight l a w f = f ∙ rw (l, ne_eqb (get_or v 0 0) 3 a) (none (eqb (get_or v 0 0) 1) (eqb (get_or v 0 0) 2))
     where
-      none : (s t : Bool) → long_weight_of v ≡ cond (s && false) (Piece (body_of v)) (cond (t && false) (Sprue (body_of v)) (long_weight_of v))
+      none : (s t : Bool) → long_weight_of v ≡ cond (s && false) (Some (Piece (body_of v))) (cond (t && false) (Some (Sprue (body_of v))) (long_weight_of v))
       none true true = refl
       none true false = refl
       none false true = refl
       none false false = refl
 
-  no_long_weight : (length v ≡ 9 → ⊥) → Unknown ≡ long_weight_of v
+  no_long_weight : (length v ≡ 9 → ⊥) → None ≡ long_weight_of v
   unfolding long_weight_of
   no_long_weight n = rw (ne_eqb (length v) 9 n) (none (eqb (get_or v 0 0) 4) (eqb (get_or v 0 0) 5))
     where
-      none : (s t : Bool) → Unknown ≡ cond (s && false) (limited Piece (body_of v)) (cond (t && false) (limited Sprue (body_of v)) Unknown)
+      none : (s t : Bool) → None ≡ cond (s && false) (limited Piece (body_of v)) (cond (t && false) (limited Sprue (body_of v)) None)
       none true true = refl
       none true false = refl
       none false true = refl
       none false false = refl
 
-  pub no_short_weight : length v ≡ 5 → (get_or v 0 0 ≡ 1 → ⊥) → (get_or v 0 0 ≡ 2 → ⊥) → Unknown ≡ weight_of v
+  pub no_short_weight : length v ≡ 5 → (get_or v 0 0 ≡ 1 → ⊥) → (get_or v 0 0 ≡ 2 → ⊥) → None ≡ weight_of v
   unfolding weight_of
   no_short_weight l a b =
       no_long_weight (λ n. absurd (omega (arith, l, n))) ∙ rw (l, ne_eqb (get_or v 0 0) 1 a, ne_eqb (get_or v 0 0) 2 b) (none (eqb (get_or v 0 0) 3))
@@ -83,12 +65,12 @@ module _ (v : List ℕ) where
       none true = refl
       none false = refl
 
-  pub no_weight_of_this_length : (length v ≡ 5 → ⊥) → (length v ≡ 9 → ⊥) → Unknown ≡ weight_of v
+  pub no_weight_of_this_length : (length v ≡ 5 → ⊥) → (length v ≡ 9 → ⊥) → None ≡ weight_of v
   unfolding weight_of
   no_weight_of_this_length a b =
       no_long_weight b ∙ rw (ne_eqb (length v) 5 a, ne_eqb (length v) 9 b) (none (eqb (get_or v 0 0) 1) (eqb (get_or v 0 0) 2) (eqb (get_or v 0 0) 3))
     where
-      none : (s t u : Bool) → long_weight_of v ≡ cond (s && false) (Piece (body_of v)) (cond (t && false) (Sprue (body_of v)) (cond (u && false) (factor_of (body_of v)) (long_weight_of v)))
+      none : (s t u : Bool) → long_weight_of v ≡ cond (s && false) (Some (Piece (body_of v))) (cond (t && false) (Some (Sprue (body_of v))) (cond (u && false) (factor_of (body_of v)) (long_weight_of v)))
       none true true true = refl
       none true true false = refl
       none true false true = refl
@@ -104,24 +86,24 @@ module _ (v : List ℕ) (l : length v ≡ 9) (n : ℕ) (e : n ≡ low (take 8 (d
   same : n ≡ body_of v
   same = e ∙ ap low (body_is 8 v l)
 
-  pub a_heavy_weight_is_none : weight_limit < n → Unknown ≡ long_weight_of v
+  pub a_heavy_weight_is_none : weight_limit < n → None ≡ long_weight_of v
   unfolding long_weight_of limited
   a_heavy_weight_is_none h = rw (← same, lt-leb n weight_limit h) (none (is_kind 4 9 v) (is_kind 5 9 v))
     where
-      none : (s t : Bool) → Unknown ≡ cond s Unknown (cond t Unknown Unknown)
+      none : (s t : Bool) → ◌≡◌ {A = Option Weight} None (cond s None (cond t None None))
       none true t = refl
       none false true = refl
       none false false = refl
 
   module _ (h : n ≤ weight_limit) where
-    pub a_long_piece : get_or v 0 0 ≡ 4 → Piece n ≡ long_weight_of v
+    pub a_long_piece : get_or v 0 0 ≡ 4 → Some (Piece n) ≡ long_weight_of v
     unfolding long_weight_of limited
     a_long_piece k = rw (k, l, ← same, le-leb n weight_limit h) refl
 
-    pub a_long_sprue : get_or v 0 0 ≡ 5 → Sprue n ≡ long_weight_of v
+    pub a_long_sprue : get_or v 0 0 ≡ 5 → Some (Sprue n) ≡ long_weight_of v
     unfolding long_weight_of limited
     a_long_sprue k = rw (k, l, ← same, le-leb n weight_limit h) refl
 
-  pub neither_piece_nor_sprue : (get_or v 0 0 ≡ 4 → ⊥) → (get_or v 0 0 ≡ 5 → ⊥) → Unknown ≡ long_weight_of v
+  pub neither_piece_nor_sprue : (get_or v 0 0 ≡ 4 → ⊥) → (get_or v 0 0 ≡ 5 → ⊥) → None ≡ long_weight_of v
   unfolding long_weight_of
   neither_piece_nor_sprue a b = rw (ne_eqb (get_or v 0 0) 4 a, ne_eqb (get_or v 0 0) 5 b) refl

@@ -1,4 +1,5 @@
 -- A weight of 32 bits and the same in 64 bits are one weight. Assumes nothing.
+use Rattle.std.specs.Prelude.{Some}
 use Rattle.std.proofs.Common.{◌≡◌, ℕ, ◌<◌, ◌≤◌, List, [], ◌∷◌, refl, arith, le-leb}
 use Rattle.melt_weight.specs.declared.Weight.TheVariants.{Piece, Sprue}
 use Rattle.melt_weight.specs.Weight.{low, weight_limit, limited, long_weight_of, weight_of, FourBytes, widened}
@@ -13,9 +14,9 @@ under_the_limit a b c d h i j k = omega arith
 
 -- of each body: the old kind is a piece or a sprue with its number, and the new one is the same
 pub record SameWeight (b : List ℕ) : Type 0 where
-  pub piece : weight_of (1 ∷ b) ≡ Piece (low b)
+  pub piece : weight_of (1 ∷ b) ≡ Some (Piece (low b))
   pub long_piece : weight_of (4 ∷ widened b) ≡ weight_of (1 ∷ b)
-  pub sprue : weight_of (2 ∷ b) ≡ Sprue (low b)
+  pub sprue : weight_of (2 ∷ b) ≡ Some (Sprue (low b))
   pub long_sprue : weight_of (5 ∷ widened b) ≡ weight_of (2 ∷ b)
 
 -- "Records of kinds 1 and 2 are still read, and rewriting one as 4 or 5 gives the same weight; show that for each of them."

@@ -1,10 +1,10 @@
 -- Document 02, M-104: "A weight record's value is a kind byte and a fixed body". "Read, a record is a piece, a sprue or a factor with its number." And M-106's
 -- weights of 64 bits.
-use Rattle.std.specs.Prelude.{◌≡◌, ℕ, ◌+◌, ◌*◌, ◌<◌, ◌≤◌, Bool, false, cond, ◌&&◌, T, List, [], ◌∷◌, ◌++◌, length, drop, pos, ◌==◌, from_bits, nat_le, slice_index, Float}
+use Rattle.std.specs.Prelude.{◌≡◌, ℕ, ◌+◌, ◌*◌, ◌<◌, ◌≤◌, Bool, false, cond, ◌&&◌, T, List, [], ◌∷◌, ◌++◌, length, drop, pos, ◌==◌, from_bits, nat_le, slice_index, Float, Option, Some, None}
 use Rattle.std.specs.Float.{binary64, fin}
 use Rattle.std.specs.Float.Ieee.{le}
 use Rattle.melt_weight.specs.declared.Weight.{Weight}
-use Rattle.melt_weight.specs.declared.Weight.TheVariants.{Piece, Sprue, Factor, Unknown}
+use Rattle.melt_weight.specs.declared.Weight.TheVariants.{Piece, Sprue, Factor}
 
 -- "all low byte first": the number that bytes spell
 unfoldable pub low : List ℕ → ℕ
@@ -23,8 +23,8 @@ least_factor = 4607182418800017408
 abbrev pub most_factor : ℕ
 most_factor = 4629700416936869888
 
-unfoldable pub factor_of : ℕ → Weight
-factor_of b = cond (nat_le least_factor b && nat_le b most_factor) (Factor (from_bits binary64 b)) Unknown
+unfoldable pub factor_of : ℕ → Option Weight
+factor_of b = cond (nat_le least_factor b && nat_le b most_factor) (Some (Factor (from_bits binary64 b))) None
 
 -- a value of this kind and length
 abbrev pub is_kind : ℕ → ℕ → List ℕ → Bool
@@ -35,18 +35,18 @@ abbrev pub weight_limit : ℕ
 weight_limit = 1099511627776
 
 -- "a kind 4 or 5 weight above the limit" is none
-unfoldable pub limited : (ℕ → Weight) → ℕ → Weight
-limited weight n = cond (nat_le n weight_limit) (weight n) Unknown
+unfoldable pub limited : (ℕ → Weight) → ℕ → Option Weight
+limited weight n = cond (nat_le n weight_limit) (Some (weight n)) None
 
 -- M-106: "Kinds 4 and 5 are piece and sprue in 64 bits"
-unfoldable pub long_weight_of : List ℕ → Weight
-long_weight_of v = cond (is_kind 4 9 v) (limited Piece (body_of v)) (cond (is_kind 5 9 v) (limited Sprue (body_of v)) Unknown)
+unfoldable pub long_weight_of : List ℕ → Option Weight
+long_weight_of v = cond (is_kind 4 9 v) (limited Piece (body_of v)) (cond (is_kind 5 9 v) (limited Sprue (body_of v)) None)
 
--- "1, a piece's wax in milligrams (32 bits); 2, the sprue's (32 bits); 3, the alloy factor as a 64-bit float": unknown with "another kind, a wrong length"
-unfoldable pub weight_of : List ℕ → Weight
+-- "1, a piece's wax in milligrams (32 bits); 2, the sprue's (32 bits); 3, the alloy factor as a 64-bit float": none with "another kind, a wrong length"
+unfoldable pub weight_of : List ℕ → Option Weight
 weight_of v =
-    cond (is_kind 1 5 v) (Piece (body_of v))
-    (cond (is_kind 2 5 v) (Sprue (body_of v))
+    cond (is_kind 1 5 v) (Some (Piece (body_of v)))
+    (cond (is_kind 2 5 v) (Some (Sprue (body_of v)))
     (cond (is_kind 3 9 v) (factor_of (body_of v)) (long_weight_of v)))
 
 -- ---- what a weight that was read is
@@ -57,11 +57,11 @@ pub record FactorRight (x : Float) : Type 0 where
   pub most : T (le x (fin false 1 (pos 5)))
 
 -- whoever adds weights up needs of each: milligrams up to the limit, a factor from 1 to 32
-abbrev pub WeightRight : Weight → Type 0
-WeightRight (Piece n) = n ≤ weight_limit
-WeightRight (Sprue n) = n ≤ weight_limit
-WeightRight (Factor x) = FactorRight x
-WeightRight Unknown = Unit {0}
+abbrev pub WeightRight : Option Weight → Type 0
+WeightRight (Some (Piece n)) = n ≤ weight_limit
+WeightRight (Some (Sprue n)) = n ≤ weight_limit
+WeightRight (Some (Factor x)) = FactorRight x
+WeightRight None = Unit {0}
 
 -- ---- M-106: "rewriting one as 4 or 5 gives the same weight"
 

@@ -10,19 +10,18 @@ ghost use Rattle.melt_weight.specs.Sheet.{whole_above, sheet_of};
 // The most milligrams of a weight of 64 bits, and of a tree.
 pub const MOST_WAX: u64 = 1099511627776;
 
-// A weight record's value, read: a piece or a sprue in milligrams, a factor, or none of these.
-#[derive(Clone, Copy)]
+// A weight record's value, read: a piece or a sprue in milligrams, or a factor.
+#[derive(Clone, Copy, Debug)]
 pub enum Weight {
     Piece(u64),
     Sprue(u64),
     Factor(f64),
-    Unknown,
 }
 
 // The melt of a tree: its wax in milligrams, its alloy factor, their product rounded once, and the whole milligrams not below it.
 // All but the refusal are 0 where there is one.
 #[repr(C)]
-#[derive(Clone, Copy)]
+#[derive(Clone, Copy, Debug)]
 pub struct LeafMelt {
     pub refusal: u8,
     pub total: u64,
@@ -33,21 +32,13 @@ pub struct LeafMelt {
 
 // ---- a value
 
-// A byte as a number: where a cast stands by itself, its need closes by itself.
-fn wide(x: u8) -> u64
-    ensures { (result ≡ x) × (result < 256) }
-{
-    x as u64
-}
-
 // The number that four bytes from `at` on spell, low byte first.
 fn low_half(bytes: &[u8], at: usize) -> u64
     requires { at + 4 ≤ length bytes.now }
     ensures { (result ≡ low (take 4 (drop at bytes.now))) × (result < 4294967296) }
 {
-    let two = wide(bytes[at + 2]) + 256 * wide(bytes[at + 3]);
-    let three = wide(bytes[at + 1]) + 256 * two;
-    wide(bytes[at]) + 256 * three
+    let half = u32::from_le_bytes([bytes[at], bytes[at + 1], bytes[at + 2], bytes[at + 3]]);
+    u64::from(half)
 }
 
 // The number that eight bytes from `at` on spell, low byte first.
@@ -55,54 +46,56 @@ fn low_word(bytes: &[u8], at: usize) -> u64
     requires { at + 8 ≤ length bytes.now }
     ensures { result ≡ low (take 8 (drop at bytes.now)) }
 {
-    low_half(bytes, at) + 4294967296 * low_half(bytes, at + 4)
+    let mut word = [0u8; 8];
+    word.copy_from_slice(&bytes[at..at + 8]);
+    u64::from_le_bytes(word)
 }
 
 // The factor of these bits, if it is one from 1 to 32. The bits are compared, so that no NaN is made.
-fn factor_of(bits: u64) -> Weight
+fn factor_of(bits: u64) -> Option<Weight>
     ensures { (result ≡ factor_of bits) × WeightRight result }
 {
     if bits < 4607182418800017408 {
-        return Weight::Unknown;
+        return None;
     }
     if 4629700416936869888 < bits {
-        return Weight::Unknown;
+        return None;
     }
-    Weight::Factor(f64::from_bits(bits))
+    Some(Weight::Factor(f64::from_bits(bits)))
 }
 
 // The weight that nine bytes are, of kind 4 or 5, at most 2 to the 40th.
-fn long_weight(value: &[u8]) -> Weight
+fn long_weight(value: &[u8]) -> Option<Weight>
     requires { length value.now ≡ 9 }
     ensures { (result ≡ long_weight_of value.now) × WeightRight result }
 {
     let wax = low_word(value, 1);
     if MOST_WAX < wax {
-        return Weight::Unknown;
+        return None;
     }
     let kind = value[0];
     if kind == 4 {
-        return Weight::Piece(wax);
+        return Some(Weight::Piece(wax));
     }
     if kind == 5 {
-        return Weight::Sprue(wax);
+        return Some(Weight::Sprue(wax));
     }
-    Weight::Unknown
+    None
 }
 
 // The weight that a value is, by its kind byte and its fixed body.
-pub fn read(value: &[u8]) -> Weight
+pub fn read(value: &[u8]) -> Option<Weight>
     ensures { (result ≡ weight_of value.now) × WeightRight result }
 {
     if value.len() == 5 {
         let kind = value[0];
         if kind == 1 {
-            return Weight::Piece(low_half(value, 1));
+            return Some(Weight::Piece(low_half(value, 1)));
         }
         if kind == 2 {
-            return Weight::Sprue(low_half(value, 1));
+            return Some(Weight::Sprue(low_half(value, 1)));
         }
-        return Weight::Unknown;
+        return None;
     }
     if value.len() == 9 {
         let kind = value[0];
@@ -111,7 +104,7 @@ pub fn read(value: &[u8]) -> Weight
         }
         return long_weight(value);
     }
-    Weight::Unknown
+    None
 }
 
 // ---- the sheet
@@ -136,20 +129,18 @@ pub fn melt(total: u64, factor: f64) -> LeafMelt
 {
     let wax = total as f64;
     let product = wax * factor;
+    let unmelted = LeafMelt {
+        refusal: 0,
+        total,
+        factor,
+        product,
+        melt: 0,
+    };
     if total == 0 {
-        return LeafMelt {
-            refusal: 0,
-            total: total,
-            factor: factor,
-            product: product,
-            melt: 0,
-        };
+        return unmelted;
     }
     LeafMelt {
-        refusal: 0,
-        total: total,
-        factor: factor,
-        product: product,
         melt: whole_above(product),
+        ..unmelted
     }
 }

@@ -1,6 +1,6 @@
 -- Cells: what `encode_cell` writes and `decode_cell` answers. Assumes nothing.
-use mathlib.Core.Path.{◌≡◌, refl, sym, ◌∙◌}
-use mathlib.Core.Bool.{Bool, true, false, not, ◌&&◌}
+use mathlib.Core.Path.{◌≡◌, refl, ◌∙◌}
+use mathlib.Core.Bool.{Bool, true, false, ◌&&◌}
 use mathlib.Core.List.{List, ◌++◌, append_assoc}
 use Prim.Native.Nat.{ℕ, zero, suc, ◌+◌, ◌-◌, ◌*◌, ◌≤◌, ◌<◌, min}
 use native.Mathlib.Nat.{zero-add, sub-zero}
@@ -8,17 +8,21 @@ use native.Mathlib.Omega.{arith}
 use lib.Dec.{eqb}
 use lib.ListN.{length, drop, length-append, length-take}
 use lib.Seq.{take_all}
-use borrow.Author.Tests.{eqb-true, eq-eqb, ne_eqb, not-true, not-false}
+use borrow.Author.Tests.{eqb-true, eq-eqb, ne_eqb}
+use Rattle.leaf_node.proofs.Rules.{both}
+use Rattle.refusal.specs.declared.Refusal.{Refusal}
+use Rattle.refusal.specs.declared.Refusal.TheVariants.{BadOverflow}
+use Rattle.refusal.specs.Numbers.{number}
 use Rattle.bit_ops.specs.Steps.{zeros}
 use Rattle.leaf_node.specs.Build.{put}
-use Rattle.leaf_node.proofs.Rules.{both, true_is_not_false}
 use Rattle.leaf_builder.proofs.Putting.{put_put}
 use Rattle.overflow.specs.Count.{most_value, cell_numbers, size_right, page_count, in_cell}
 use Rattle.overflow.specs.Written.{low_bytes, numbers_out, cell_of}
 use Rattle.overflow.specs.Read.{cell_size, cell_count, cell_right}
 use Rattle.overflow.specs.Outcome.{padded}
-use Rattle.overflow.specs.Steps.{CellRead}
-use Rattle.overflow.proofs.Counts.{right_sizes, a_value_has_a_page, the_count_is_at_most_257}
+use Rattle.overflow.specs.Verdict.{count_verdict}
+use Rattle.overflow.specs.Steps.{RightCell, WrongCell}
+use Rattle.overflow.proofs.Counts.{right_sizes, accepted_sizes, refused_sizes, a_value_has_a_page}
 use Rattle.overflow.proofs.Numbers.{length_low, numbers_long}
 
 -- ---- written
@@ -68,50 +72,46 @@ right_cells c h =
     let s = right_sizes (cell_size c) p.0 in
     record { some = s.some; most = s.most; long = eqb-true (length c) (40 + 4 * in_cell (cell_count c)) p.1 }
 
-module _ (c : List ℕ) (ok : Bool) (size count : ℕ) (few : count ≤ 257) where
-  wrong : ok ≡ false → cell_right c ≡ false → CellRead c ok size count
-  wrong e h = record { tested = e ∙ sym h; few = few; right = λ t. absurd (true_is_not_false t e) }
+module _ (c : List ℕ) where
+  wrong : cell_right c ≡ false → WrongCell c BadOverflow
+  wrong h = record { wrong = h; refused = refl }
 
-  pub a_short_cell_is_wrong : ok ≡ false → length c < 44 → CellRead c ok size count
+  pub a_short_cell_is_wrong : length c < 44 → WrongCell c BadOverflow
   unfolding cell_right
-  a_short_cell_is_wrong e h = wrong e (go (size_right (cell_size c)) refl)
+  a_short_cell_is_wrong h = wrong (go (size_right (cell_size c)) refl)
     where
       go : (b : Bool) → size_right (cell_size c) ≡ b → (b && eqb (length c) (40 + 4 * in_cell (cell_count c))) ≡ false
       go true q = ne_eqb (length c) (40 + 4 * in_cell (cell_count c)) (λ l. omega (arith, a_value_has_a_page (cell_size c) (right_sizes (cell_size c) q), h, l))
       go false q = refl
 
-  module _ (s : ℕ) (es : s ≡ cell_size c) (b : Bool) (eb : b ≡ size_right s) where
-    pub a_cell_of_a_wrong_size_is_wrong : ok ≡ false → not b ≡ true → CellRead c ok size count
+  module _ (s : ℕ) (es : s ≡ cell_size c) where
+    pub a_cell_of_a_wrong_size_is_wrong : (r : Refusal) → number r ≡ count_verdict s → WrongCell c BadOverflow
     unfolding cell_right
-    a_cell_of_a_wrong_size_is_wrong e h =
-        let f : size_right (cell_size c) ≡ false = rw (← es, ← eb) (not-true b h) in
-        wrong e (rw f)
+    a_cell_of_a_wrong_size_is_wrong r e =
+        let f : size_right (cell_size c) ≡ false = rw (← es) (refused_sizes s r e) in
+        wrong (rw f)
 
-    module _ (t m : ℕ) (et : t ≡ page_count s) (em : m ≡ min t 15) (h : not b ≡ false) where
+    module _ (e : 0 ≡ count_verdict s) (t m : ℕ) (et : t ≡ page_count s) (few : t ≤ 257) (em : m ≡ min t 15) where
       good : size_right (cell_size c) ≡ true
-      good = rw (← es, ← eb) (not-false b h)
+      good = rw (← es) (accepted_sizes s e)
 
-      pub a_cell_of_another_length_is_wrong : ok ≡ false → (length c ≡ 40 + 4 * m → ⊥) → CellRead c ok size count
+      pub a_cell_of_another_length_is_wrong : (length c ≡ 40 + 4 * m → ⊥) → WrongCell c BadOverflow
       unfolding cell_right
-      a_cell_of_another_length_is_wrong e n =
+      a_cell_of_another_length_is_wrong n =
           let f : eqb (length c) (40 + 4 * in_cell (cell_count c)) ≡ false = ne_eqb (length c) (40 + 4 * in_cell (cell_count c)) (λ l. n (l ∙ rw (em, et, es))) in
-          wrong e (rw (good, f))
+          wrong (rw (good, f))
 
-module _ (c : List ℕ) (s : ℕ) (es : s ≡ cell_size c) (b : Bool) (eb : b ≡ size_right s) (t m : ℕ) (et : t ≡ page_count s) (em : m ≡ min t 15) (h : not b ≡ false) where
-  pub a_right_cell_is_read : length c ≡ 40 + 4 * m → CellRead c true s t
-  unfolding cell_right
-  a_right_cell_is_read l =
-      let g : size_right (cell_size c) ≡ true = rw (← es, ← eb) (not-false b h) in
-      let z = right_sizes (cell_size c) g in
-      let f : eqb (length c) (40 + 4 * in_cell (cell_count c)) ≡ true = eq-eqb (length c) (40 + 4 * in_cell (cell_count c)) (l ∙ rw (em, et, es)) in
-      record {
-        tested = rw (g, f);
-        few = rw (et, es) (the_count_is_at_most_257 (cell_size c) z);
-        right = λ _. record {
-          sized = es;
-          counted = et ∙ rw es;
-          some = rw es z.some;
-          most = rw es z.most;
-          long = l ∙ rw em;
-        };
-      }
+      pub a_right_cell_is_read : length c ≡ 40 + 4 * m → RightCell c s t
+      unfolding cell_right
+      a_right_cell_is_read l =
+          let z = right_sizes (cell_size c) good in
+          let f : eqb (length c) (40 + 4 * in_cell (cell_count c)) ≡ true = eq-eqb (length c) (40 + 4 * in_cell (cell_count c)) (l ∙ rw (em, et, es)) in
+          record {
+            right = rw (good, f);
+            sized = es;
+            counted = et ∙ rw es;
+            some = rw es z.some;
+            most = rw es z.most;
+            few = few;
+            long = l ∙ rw em;
+          }

@@ -1,12 +1,14 @@
 -- The page count: the smallest that holds a value and its numbers, and what is known of it within the limit. Assumes nothing.
-use mathlib.Core.Path.{◌≡◌, refl}
+use mathlib.Core.Path.{◌≡◌, ◌∙◌, refl}
 use mathlib.Core.Bool.{Bool, true, false, not, cond, ◌&&◌}
 use Prim.Native.Nat.{ℕ, ◌+◌, ◌-◌, ◌*◌, ◌/◌, ◌≤◌, ◌<◌}
 use native.Mathlib.Omega.{arith}
 use lib.Dec.{leb, ltb}
-use borrow.Author.Tests.{ltb-true, lt-ltb, leb-true, leb-false, le-leb, lt-leb, not-true, not-false}
+use borrow.Author.Tests.{eqb-false, ltb-true, lt-ltb, leb-true, leb-false, le-leb, lt-leb, not-true, not-false}
 use Rattle.leaf_node.proofs.Rules.{both}
-use Rattle.refusal.specs.Refusal.{overflow_length}
+use Rattle.refusal.specs.declared.Refusal.{Refusal}
+use Rattle.refusal.specs.Numbers.{number}
+use Rattle.refusal.proofs.Numbers.{not_accepted}
 use Rattle.overflow.specs.Count.{most_numbers, body_bytes, cell_numbers, most_value, size_right, Holds, page_count}
 use Rattle.overflow.specs.Verdict.{count_verdict}
 use Rattle.overflow.specs.Outcome.{count_of}
@@ -83,16 +85,41 @@ module _ (n : ℕ) (s : Sized n) where
           let f = fewer_don't_hold n (page_count n - 1) (omega (arith, h, s.some, a_value_has_a_page)) in
           absurd (omega (arith, f, a_value_has_a_page))
 
--- ---- the page count call
+-- ---- the number of a size, and the page count call
 
-module _ (n : ℕ) (b : Bool) (e : b ≡ size_right n) where
-  pub a_wrong_size_is_refused : not b ≡ true → record { refusal = overflow_length; pages = 0 } ≡ count_of n
-  unfolding count_of count_verdict
-  a_wrong_size_is_refused h = rw (← e, not-true b h)
+module _ (n : ℕ) where
+  pub accepted_sizes : 0 ≡ count_verdict n → size_right n ≡ true
+  unfolding count_verdict
+  accepted_sizes h = go (size_right n) refl
+    where
+      go : (b : Bool) → size_right n ≡ b → size_right n ≡ true
+      go true e = e
+      go false e = absurd (omega (arith, rw e at h))
 
-  pub a_size_is_small : not b ≡ false → n ≤ 1048576
-  a_size_is_small h = (right_sizes n (rw (← e) (not-false b h))).most
+  pub refused_sizes : (r : Refusal) → number r ≡ count_verdict n → size_right n ≡ false
+  unfolding count_verdict
+  refused_sizes r h = go (size_right n) refl
+    where
+      go : (b : Bool) → size_right n ≡ b → size_right n ≡ false
+      go true e = absurd (eqb-false (number r) 0 (not_accepted r) (h ∙ rw e))
+      go false e = e
 
-  pub a_size_is_counted : not b ≡ false → (t : ℕ) → t ≡ page_count n → record { refusal = 0; pages = t } ≡ count_of n
-  unfolding count_of count_verdict
-  a_size_is_counted h t q = rw (← e, not-false b h, q)
+  pub a_counted_size : 0 ≡ count_verdict n → (t : ℕ) → t ≡ page_count n → record { refusal = 0; pages = t } ≡ count_of n
+  unfolding count_of
+  a_counted_size h t q = rw (← h, q)
+
+  pub a_refused_size : (r : Refusal) → number r ≡ count_verdict n → (m : ℕ) → m ≡ number r → record { refusal = m; pages = 0 } ≡ count_of n
+  unfolding count_of
+  a_refused_size r h m q = rw (← h, not_accepted r, q)
+
+  module _ (b : Bool) (e : b ≡ size_right n) where
+    pub a_wrong_size : not b ≡ true → 21 ≡ count_verdict n
+    unfolding count_verdict
+    a_wrong_size h = rw (← e, not-true b h)
+
+    pub a_right_size : not b ≡ false → 0 ≡ count_verdict n
+    unfolding count_verdict
+    a_right_size h = rw (← e, not-false b h)
+
+    pub a_size_is_small : not b ≡ false → n ≤ 1048576
+    a_size_is_small h = (right_sizes n (rw (← e) (not-false b h))).most

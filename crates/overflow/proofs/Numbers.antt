@@ -2,16 +2,15 @@
 use mathlib.Core.Path.{◌≡◌, refl, sym, ap, ◌∙◌}
 use mathlib.Core.List.{List, [], ◌∷◌, ◌++◌, append_assoc}
 use Prim.Native.Nat.{ℕ, zero, suc, ◌+◌, ◌-◌, ◌*◌, ◌/◌, ◌%◌, ◌≤◌, ◌<◌}
-use native.Mathlib.Nat.{add_assoc, add-zero, sub-zero}
+use native.Mathlib.Nat.{add-zero, sub-zero}
 use native.Mathlib.Omega.{arith}
 use native.Mathlib.Numerals.{add-one}
 use lib.ListN.{length, get_or, take, drop, set, length-append, length-drop}
 use lib.Seq.{set_split, drop-cons, get_or-drop}
-use Rattle.leaf_node.specs.Page.{word}
 use Rattle.leaf_node.specs.Build.{put}
 use Rattle.leaf_builder.proofs.Putting.{put_none, put_put, length_put}
 use Rattle.overflow.specs.Written.{low_bytes, numbers_out}
-use Rattle.overflow.specs.Read.{low_number, cell_size}
+use Rattle.overflow.specs.Read.{low_number}
 
 -- ---- an element, then the others
 
@@ -112,20 +111,6 @@ four (a ∷ b ∷ []) = omega arith
 four (a ∷ b ∷ c ∷ []) = omega arith
 four (a ∷ b ∷ c ∷ d ∷ bs) = omega arith
 
-pub four_bytes_are_read : (bs : List ℕ) (at low high : ℕ) → low ≡ word bs at → high ≡ word bs (at + 2) → low + 65536 * high ≡ low_number (take 4 (drop at bs))
-unfolding word
-four_bytes_are_read bs at low high e f =
-    rw (e, f) (sym (four (drop at bs) ∙ rw (get_or-drop at bs 0 0, get_or-drop at bs 1 0, get_or-drop at bs 2 0, get_or-drop at bs 3 0, add-zero at, add_assoc at 2 1)))
-
--- eight bytes
-eight : (bs : List ℕ) → low_number (take 8 bs) ≡ low_number (take 4 bs) + 4294967296 * low_number (take 4 (drop 4 bs))
-unfolding low_number
-eight [] = refl
-eight (a ∷ []) = omega arith
-eight (a ∷ b ∷ []) = omega arith
-eight (a ∷ b ∷ c ∷ []) = omega arith
-eight (a ∷ b ∷ c ∷ d ∷ bs) = omega arith
-
-pub size_is_read : (c : List ℕ) (low high : ℕ) → low ≡ low_number (take 4 (drop 0 c)) → high ≡ low_number (take 4 (drop 4 c)) → low + 4294967296 * high ≡ cell_size c
-unfolding cell_size
-size_is_read c low high e f = rw (e, f) (sym (eight c))
+pub four_bytes_are_read : (bs : List ℕ) (at : ℕ) → get_or bs at 0 + get_or bs (at + 1) 0 * 256 + get_or bs (at + 2) 0 * 65536 + get_or bs (at + 3) 0 * 16777216 ≡ low_number (take 4 (drop at bs))
+four_bytes_are_read bs at =
+    rw (four (drop at bs), get_or-drop at bs 0 0, get_or-drop at bs 1 0, get_or-drop at bs 2 0, get_or-drop at bs 3 0, add-zero at) (omega arith)

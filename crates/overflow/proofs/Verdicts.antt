@@ -1,33 +1,37 @@
 -- Nos. 21 to 23: what each stands for, and what an accepted call is lent. Assumes nothing.
-use mathlib.Core.Path.{◌≡◌, refl}
-use mathlib.Core.Bool.{Bool, true, false, not, cond, ◌&&◌}
+use mathlib.Core.Path.{◌≡◌, ◌∙◌, refl}
+use mathlib.Core.Bool.{Bool, true, false, cond, ◌&&◌}
 use mathlib.Core.List.{List}
 use Prim.Native.Nat.{ℕ, ◌*◌, ◌≤◌}
 use native.Mathlib.Omega.{arith}
 use lib.Dec.{leb}
 use lib.ListN.{length}
-use borrow.Author.Tests.{leb-true, le-leb, not-true, not-false}
+use borrow.Author.Tests.{leb-true, le-leb}
 use Rattle.leaf_node.proofs.Rules.{both}
+use Rattle.refusal.specs.declared.Refusal.{Refusal}
+use Rattle.refusal.specs.Numbers.{number}
 use Rattle.overflow.specs.Count.{size_right, page_count}
 use Rattle.overflow.specs.Read.{cell_count, cell_right}
-use Rattle.overflow.specs.Verdict.{split_verdict, all_right, read_verdict}
-use Rattle.overflow.proofs.Counts.{Sized, right_sizes, sizes_are_right}
+use Rattle.overflow.specs.Verdict.{count_verdict, split_verdict, all_right, read_verdict}
+use Rattle.overflow.proofs.Counts.{Sized, right_sizes, sizes_are_right, accepted_sizes, refused_sizes}
 
 -- ---- splitting
 
-module _ (n numbers area : ℕ) (b : Bool) (e : b ≡ size_right n) where
-  pub a_wrong_length_is_refused : not b ≡ true → 21 ≡ split_verdict n numbers area
-  unfolding split_verdict
-  a_wrong_length_is_refused h = rw (← e, not-true b h)
+module _ (n numbers area : ℕ) where
+  pub a_refused_size_is_not_split : (r : Refusal) → number r ≡ count_verdict n → number r ≡ split_verdict n numbers area
+  unfolding count_verdict split_verdict
+  a_refused_size_is_not_split r e =
+      let f : size_right n ≡ false = refused_sizes n r e in
+      e ∙ rw f
 
-  module _ (h : not b ≡ false) (t : ℕ) (q : t ≡ page_count n) where
+  module _ (e : 0 ≡ count_verdict n) (t : ℕ) (q : t ≡ page_count n) where
     pub long_buffers_are_accepted : (leb t numbers && leb (4096 * t) area) ≡ true → 0 ≡ split_verdict n numbers area
     unfolding split_verdict
-    long_buffers_are_accepted l = rw (← e, not-false b h, ← q, l)
+    long_buffers_are_accepted l = rw (accepted_sizes n e, ← q, l)
 
     pub short_buffers_are_refused : (leb t numbers && leb (4096 * t) area) ≡ false → 22 ≡ split_verdict n numbers area
     unfolding split_verdict
-    short_buffers_are_refused l = rw (← e, not-false b h, ← q, l)
+    short_buffers_are_refused l = rw (accepted_sizes n e, ← q, l)
 
 -- what a splitting that isn't refused is lent
 pub record Lent (n numbers area : ℕ) : Type 0 where

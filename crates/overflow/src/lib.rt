@@ -4,36 +4,37 @@
 //     page: n_pointers: u16, n_bytes: u16, pointers: [PageNumber; n_pointers], bytes: [u8; n_bytes], then zeros
 #![tactic(auto)]
 
-ghost use Rattle.std.specs.Prelude.{◌≡◌, false, ◌+◌, ◌*◌, ◌≤◌, ◌<◌, min, length, get_or, take, drop};
+ghost use Rattle.std.specs.Prelude.{◌≡◌, ◌+◌, ◌*◌, ◌≤◌, ◌<◌, min, length, take, drop, IfOk};
+ghost use Rattle.refusal.specs.Numbers.{number_of};
 ghost use Rattle.leaf_node.specs.Page.{word};
 ghost use Rattle.leaf_node.specs.Build.{put};
 ghost use Rattle.overflow.specs.Count.{size_right, page_count};
 ghost use Rattle.overflow.specs.Written.{low_bytes, numbers_out, cell_of};
 ghost use Rattle.overflow.specs.Read.{low_number, cell_size, numbers_here, bytes_here};
+ghost use Rattle.overflow.specs.Verdict.{count_verdict};
 ghost use Rattle.overflow.specs.Outcome.{count_of, padded};
 ghost use Rattle.overflow.specs.Steps.{CellRead};
 
 use leaf_node::copy_in;
-use refusal::OVERFLOW_LENGTH;
+use refusal::Refusal;
 
 // The number of a page, and how many pages there are: neither is taken for the other.
-#[derive(Clone, Copy)]
+#[derive(Clone, Copy, Debug, PartialEq, Eq)]
 pub struct PageNumber(pub u32);
 
-#[derive(Clone, Copy)]
+#[derive(Clone, Copy, Debug, PartialEq, Eq)]
 pub struct PageCount(pub usize);
 
 // A page's two counts: how many numbers, how many bytes.
-#[derive(Clone, Copy)]
+#[derive(Clone, Copy, Debug, PartialEq, Eq)]
 pub struct Shape {
     pub numbers: usize,
     pub bytes: usize,
 }
 
-// What a cell says, where it is one that a splitting writes.
-#[derive(Clone, Copy)]
+// What a cell says that a splitting writes.
+#[derive(Clone, Copy, Debug, PartialEq, Eq)]
 pub struct Decoded {
-    pub ok: bool,
     pub size: usize,
     pub pages: PageCount,
 }
@@ -48,14 +49,14 @@ const MAX_PNS: usize = 1023;
 // ---- replies
 
 #[repr(C)]
-#[derive(Clone, Copy)]
+#[derive(Clone, Copy, Debug, PartialEq, Eq)]
 pub struct LeafPageCount {
     pub refusal: u8,
     pub pages: usize,
 }
 
 #[repr(C)]
-#[derive(Clone, Copy)]
+#[derive(Clone, Copy, Debug, PartialEq, Eq)]
 pub struct LeafSplit {
     pub refusal: u8,
     pub cell: [u8; 100],
@@ -64,26 +65,20 @@ pub struct LeafSplit {
 }
 
 #[repr(C)]
-#[derive(Clone, Copy)]
+#[derive(Clone, Copy, Debug, PartialEq, Eq)]
 pub struct LeafJoined {
     pub refusal: u8,
     pub len: usize,
 }
 
 #[repr(C)]
-#[derive(Clone, Copy)]
+#[derive(Clone, Copy, Debug, PartialEq, Eq)]
 pub struct LeafFreed {
     pub refusal: u8,
     pub numbers: usize,
 }
 
 // ---- the page count
-
-fn smaller(a: usize, b: usize) -> usize
-    ensures { result ≡ min a b }
-{
-    if a < b { a } else { b }
-}
 
 // Whether a value may be so long: not empty, and not over the most.
 pub fn size_right(size: usize) -> bool
@@ -107,23 +102,33 @@ pub fn total_needed_pages(size: usize) -> PageCount
 pub fn in_cell(pages: PageCount) -> usize
     ensures { result ≡ min pages.0 15 }
 {
-    smaller(pages.0, MAX_OVERFLOW_CELL_NODE_POINTERS)
+    pages.0.min(MAX_OVERFLOW_CELL_NODE_POINTERS)
+}
+
+// The page count of a value of so many bytes, or 21.
+pub fn page_count(len: usize) -> Result<PageCount, Refusal>
+    ensures number { number_of result ≡ count_verdict len }
+    ensures count { IfOk result (λ t. (t.0 ≡ page_count len) × (t.0 ≤ 257)) }
+{
+    if !size_right(len) {
+        return Err(Refusal::OverflowLength);
+    }
+    Ok(total_needed_pages(len))
 }
 
 // The page count call: 21, or how many pages a splitting writes.
 pub fn pages(len: usize) -> LeafPageCount
     ensures { result ≡ count_of len }
 {
-    if !size_right(len) {
-        return LeafPageCount {
-            refusal: OVERFLOW_LENGTH,
+    match page_count(len) {
+        Ok(pages) => LeafPageCount {
+            refusal: 0,
+            pages: pages.0,
+        },
+        Err(refusal) => LeafPageCount {
+            refusal: u8::from(refusal),
             pages: 0,
-        };
-    }
-    let t = total_needed_pages(len);
-    LeafPageCount {
-        refusal: 0,
-        pages: t.0,
+        },
     }
 }
 
@@ -131,38 +136,21 @@ pub fn pages(len: usize) -> LeafPageCount
 pub fn shape_at(numbers: usize, bytes: usize) -> Shape
     ensures { (result.numbers ≡ numbers_here numbers) × (result.bytes ≡ bytes_here numbers bytes) }
 {
-    let n = smaller(MAX_PNS, numbers);
-    let b = smaller(4092 - 4 * n, bytes);
+    let here = numbers.min(MAX_PNS);
     Shape {
-        numbers: n,
-        bytes: b,
+        numbers: here,
+        bytes: bytes.min(4092 - 4 * here),
     }
 }
 
 // ---- numbers in bytes, low byte first
-
-fn wide(x: u8) -> usize
-    ensures { (result ≡ x) × (result < 256) }
-{
-    x as usize
-}
 
 // The number in two bytes from index `at` on.
 pub fn half_at(bytes: &[u8], at: usize) -> usize
     requires { at + 1 < length bytes.now }
     ensures { (result ≡ word bytes.now at) × (result < 65536) }
 {
-    wide(bytes[at]) + 256 * wide(bytes[at + 1])
-}
-
-// The number in four bytes from index `at` on.
-fn word_at(bytes: &[u8], at: usize) -> usize
-    requires { at + 3 < length bytes.now }
-    ensures { (result ≡ low_number (take 4 (drop at bytes.now))) × (result < 4294967296) }
-{
-    let low = half_at(bytes, at);
-    let high = half_at(bytes, at + 2);
-    low + 65536 * high
+    usize::from(u16::from_le_bytes([bytes[at], bytes[at + 1]]))
 }
 
 // The page number in four bytes from index `at` on.
@@ -170,15 +158,7 @@ pub fn number_in(bytes: &[u8], at: usize) -> PageNumber
     requires { at + 3 < length bytes.now }
     ensures { result.0 ≡ low_number (take 4 (drop at bytes.now)) }
 {
-    PageNumber(word_at(bytes, at) as u32)
-}
-
-// A lent number, as the page number that it is.
-fn number_at(numbers: &[u32], i: usize) -> PageNumber
-    requires { i < length numbers.now }
-    ensures { result.0 ≡ get_or numbers.now i 0 }
-{
-    PageNumber(numbers[i])
+    PageNumber(u32::from_le_bytes([bytes[at], bytes[at + 1], bytes[at + 2], bytes[at + 3]]))
 }
 
 // The number n in `count` bytes from index `at` on; `left` is what the bytes still to come say.
@@ -187,11 +167,9 @@ pub fn put_low(out: &mut [u8], at: usize, count: usize, n: usize)
     ensures { out.new ≡ put out.old at (low_bytes count n) }
 {
     let mut left = n;
-    let mut j = 0;
-    while j < count {
+    for j in 0..count {
         out[at + j] = (left % 256) as u8;
         left /= 256;
-        j += 1;
     }
 }
 
@@ -207,10 +185,8 @@ pub fn put_numbers(out: &mut [u8], at: usize, numbers: &[u32])
     requires { at + 4 * length numbers.now ≤ length out.old }
     ensures { out.new ≡ put out.old at (numbers_out numbers.now) }
 {
-    let mut j = 0;
-    while j < numbers.len() {
-        put_number(out, at + 4 * j, number_at(numbers, j));
-        j += 1;
+    for (j, number) in numbers.iter().enumerate() {
+        put_number(out, at + 4 * j, PageNumber(*number));
     }
 }
 
@@ -233,39 +209,24 @@ fn size_in(cell: &[u8]) -> usize
     requires { 8 ≤ length cell.now }
     ensures { result ≡ cell_size cell.now }
 {
-    let low = word_at(cell, 0);
-    let high = word_at(cell, 4);
-    low + 4294967296 * high
-}
-
-fn no_cell() -> Decoded
-    ensures { (result.ok ≡ false) × (result.pages.0 ≤ 257) }
-{
-    Decoded {
-        ok: false,
-        size: 0,
-        pages: PageCount(0),
-    }
+    let mut size = [0u8; 8];
+    size.copy_from_slice(&cell[..8]);
+    usize::from_le_bytes(size)
 }
 
 // Size and page count of a cell, where it is one that a splitting writes.
-pub fn decode_cell(cell: &[u8]) -> Decoded
-    ensures { CellRead cell.now result.ok result.size result.pages.0 }
+pub fn decode_cell(cell: &[u8]) -> Result<Decoded, Refusal>
+    ensures { CellRead cell.now result }
 {
     if cell.len() < 44 {
-        return no_cell();
+        return Err(Refusal::BadOverflow);
     }
     let size = size_in(cell);
-    if !size_right(size) {
-        return no_cell();
+    let Ok(pages) = page_count(size) else {
+        return Err(Refusal::BadOverflow);
+    };
+    if cell.len() != 40 + 4 * in_cell(pages) {
+        return Err(Refusal::BadOverflow);
     }
-    let t = total_needed_pages(size);
-    if cell.len() != 40 + 4 * in_cell(t) {
-        return no_cell();
-    }
-    Decoded {
-        ok: true,
-        size: size,
-        pages: t,
-    }
+    Ok(Decoded { size, pages })
 }

@@ -8,22 +8,24 @@ use native.Mathlib.Omega.{arith}
 use native.Mathlib.Numerals.{add-one}
 use lib.Dec.{leb, eqb}
 use lib.ListN.{length, get_or, take, drop, length-take, length-drop, drop_of_length-le}
-use lib.Seq.{drop-cons, drop-drop}
+use lib.Seq.{take_all, drop-cons, drop-drop}
 use borrow.Author.Tests.{eqb-true, eqb-false, eq-eqb, ne_eqb, not-true, not-false}
+use Rattle.refusal.specs.declared.Refusal.{Refusal}
+use Rattle.refusal.specs.Numbers.{number}
 use Rattle.leaf_node.specs.Page.{word}
 use Rattle.leaf_node.proofs.Rules.{true_is_not_false}
 use Rattle.overflow.specs.Read.{all_zero, page_right, pages_in, pages_right}
 use Rattle.overflow.specs.Verdict.{all_right, read_verdict}
-use Rattle.overflow.specs.Steps.{RightCell, CellRead}
+use Rattle.overflow.specs.Steps.{RightCell, WrongCell}
 use Rattle.overflow.proofs.Reading.{next_page_in, no_page_in, next_page_right, no_page_right}
 use Rattle.overflow_read.specs.Steps.{decoded_verdict}
 
 -- ---- bytes
 
 -- all are zeros just where those from i on are and the sum of those before is 0
-pub record Summed (bs : List ℕ) (from i sum : ℕ) : Type 0 where
+pub record Summed (bs : List ℕ) (i sum : ℕ) : Type 0 where
   pub small : sum ≤ 255 * i
-  pub same : (eqb sum 0 && all_zero (drop i bs)) ≡ all_zero (drop from bs)
+  pub same : (eqb sum 0 && all_zero (drop i bs)) ≡ all_zero bs
 
 next_zero : (b : ℕ) (bs : List ℕ) → all_zero (b ∷ bs) ≡ (eqb b 0 && all_zero bs)
 unfolding all_zero
@@ -41,12 +43,12 @@ both_zero x y r = go (eqb x 0) (eqb y 0) refl refl
     go true false e f = rw (e, f, ne_eqb (x + y) 0 (λ h. eqb-false y 0 f (omega (arith, h))))
     go false b e f = rw (e, ne_eqb (x + y) 0 (λ h. eqb-false x 0 e (omega (arith, h))))
 
-module _ (bs : List ℕ) (from : ℕ) where
-  pub no_byte_is_seen : Summed bs from from 0
+module _ (bs : List ℕ) where
+  pub no_byte_is_seen : Summed bs 0 0
   no_byte_is_seen = record { small = omega arith; same = refl }
 
-  module _ (i sum : ℕ) (h : Summed bs from i sum) where
-    pub the_sum_decides : length bs ≤ i → eqb sum 0 ≡ all_zero (drop from bs)
+  module _ (i sum : ℕ) (h : Summed bs i sum) where
+    pub the_sum_decides : length bs ≤ i → eqb sum 0 ≡ all_zero bs
     the_sum_decides l =
         let e : all_zero (drop i bs) ≡ true = rw (drop_of_length-le bs {i = i} l) nothing in
         sym (rw e (and_true (eqb sum 0))) ∙ h.same
@@ -55,7 +57,7 @@ module _ (bs : List ℕ) (from : ℕ) where
         and_true true = refl
         and_true false = refl
 
-    pub one_more_byte_is_summed : i < length bs → (x : ℕ) → x ≡ get_or bs i 0 → x < 256 → Summed bs from (i + 1) (sum + x)
+    pub one_more_byte_is_summed : i < length bs → (x : ℕ) → x ≡ get_or bs i 0 → x < 256 → Summed bs (i + 1) (sum + x)
     one_more_byte_is_summed l x e k =
         let p : drop i bs ≡ x ∷ drop (i + 1) bs = drop-cons bs i 0 l ∙ rw (add-one i, e) in
         record {
@@ -75,9 +77,9 @@ module _ (p : List ℕ) (n b x : ℕ) (ex : x ≡ word p 0) where
     unfolding page_right
     other_bytes k = rw (← ex, eq-eqb x n h, ← ey, ne_eqb y b k)
 
-    pub the_tail_decides : y ≡ b → (r : Bool) → r ≡ all_zero (drop (4 + 4 * n + b) p) → r ≡ page_right n b p
+    pub the_tail_decides : y ≡ b → (r : Bool) → r ≡ all_zero (take (length p - (4 + 4 * n + b)) (drop (4 + 4 * n + b) p)) → r ≡ page_right n b p
     unfolding page_right
-    the_tail_decides k r e = rw (← ex, eq-eqb x n h, ← ey, eq-eqb y b k, e)
+    the_tail_decides k r e = rw (← ex, eq-eqb x n h, ← ey, eq-eqb y b k, e, take_all (length p - (4 + 4 * n + b)) (drop (4 + 4 * n + b) p) (simp length-drop (omega arith)))
 
 -- ---- all pages
 
@@ -128,36 +130,30 @@ module _ (pages : List ℕ) (t n₀ b₀ : ℕ) where
 
 -- ---- the number
 
-module _ (ok : Bool) (size t : ℕ) (pages : List ℕ) (fits : Bool) where
-  pub a_wrong_cell : not ok ≡ true → 23 ≡ decoded_verdict ok size t pages fits
+module _ (size t : ℕ) (pages : List ℕ) (fits : Bool) where
+  pub a_short_buffer : not (fits && leb (4096 * t) (length pages)) ≡ true → 22 ≡ decoded_verdict size t pages fits
   unfolding decoded_verdict
-  a_wrong_cell h = rw (not-true ok h)
+  a_short_buffer k = rw (not-true (fits && leb (4096 * t) (length pages)) k)
 
-  module _ (h : not ok ≡ false) where
-    pub a_short_buffer : not (fits && leb (4096 * t) (length pages)) ≡ true → 22 ≡ decoded_verdict ok size t pages fits
-    unfolding decoded_verdict
-    a_short_buffer k = rw (not-false ok h, not-true (fits && leb (4096 * t) (length pages)) k)
+  module _ (k : not (fits && leb (4096 * t) (length pages)) ≡ false) where
+    pub the_pages_are_there : 4096 * t ≤ length pages
+    the_pages_are_there =
+        borrow.Author.Tests.leb-true (4096 * t) (length pages) (Rattle.leaf_node.proofs.Rules.both fits (leb (4096 * t) (length pages)) (not-false (fits && leb (4096 * t) (length pages)) k)).1
 
-    module _ (k : not (fits && leb (4096 * t) (length pages)) ≡ false) where
-      pub the_pages_are_there : 4096 * t ≤ length pages
-      the_pages_are_there =
-          borrow.Author.Tests.leb-true (4096 * t) (length pages) (Rattle.leaf_node.proofs.Rules.both fits (leb (4096 * t) (length pages)) (not-false (fits && leb (4096 * t) (length pages)) k)).1
+    module _ (r : Bool) (e : r ≡ pages_right (t - 15) size (pages_in t pages)) where
+      pub wrong_pages : not r ≡ true → 23 ≡ decoded_verdict size t pages fits
+      unfolding decoded_verdict
+      wrong_pages q = rw (not-false (fits && leb (4096 * t) (length pages)) k, ← e, not-true r q)
 
-      module _ (r : Bool) (e : r ≡ pages_right (t - 15) size (pages_in t pages)) where
-        pub wrong_pages : not r ≡ true → 23 ≡ decoded_verdict ok size t pages fits
-        unfolding decoded_verdict
-        wrong_pages q = rw (not-false ok h, not-false (fits && leb (4096 * t) (length pages)) k, ← e, not-true r q)
-
-        pub no_refusal : not r ≡ false → 0 ≡ decoded_verdict ok size t pages fits
-        unfolding decoded_verdict
-        no_refusal q = rw (not-false ok h, not-false (fits && leb (4096 * t) (length pages)) k, ← e, not-false r q)
+      pub no_refusal : not r ≡ false → 0 ≡ decoded_verdict size t pages fits
+      unfolding decoded_verdict
+      no_refusal q = rw (not-false (fits && leb (4096 * t) (length pages)) k, ← e, not-false r q)
 
 -- of the cell itself
-pub the_number_of_a_reading : (c : List ℕ) (ok : Bool) (size t : ℕ) (pages : List ℕ) (fits also : Bool) → CellRead c ok size t → (RightCell c size t → fits ≡ also)
-    → decoded_verdict ok size t pages fits ≡ read_verdict c pages also
+pub the_number_of_a_wrong_cell : (c : List ℕ) (r : Refusal) → WrongCell c r → (pages : List ℕ) (also : Bool) → number r ≡ read_verdict c pages also
+unfolding read_verdict
+the_number_of_a_wrong_cell c r w pages also = rw (w.refused, w.wrong)
+
+pub the_number_of_a_reading : (c : List ℕ) (size t : ℕ) (pages : List ℕ) (fits also : Bool) → RightCell c size t → fits ≡ also → decoded_verdict size t pages fits ≡ read_verdict c pages also
 unfolding decoded_verdict read_verdict all_right
-the_number_of_a_reading c ok size t pages fits also h same = go ok refl
-  where
-    go : (b : Bool) → ok ≡ b → decoded_verdict ok size t pages fits ≡ read_verdict c pages also
-    go true e = let r = h.right e in rw (e, ← h.tested, e, same r, r.sized, r.counted)
-    go false e = rw (e, ← h.tested, e)
+the_number_of_a_reading c size t pages fits also r same = rw (r.right, same, r.sized, r.counted)

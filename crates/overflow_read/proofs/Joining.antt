@@ -8,19 +8,22 @@ use native.Mathlib.Omega.{arith}
 use lib.Dec.{leb}
 use lib.ListN.{length, take, drop, set, length-set, length-take, length-drop}
 use lib.Seq.{drop-drop}
-use borrow.Author.Tests.{leb-true, ne_eqb}
+use borrow.Author.Tests.{leb-true}
+use Rattle.refusal.specs.declared.Refusal.{Refusal}
+use Rattle.refusal.specs.Numbers.{number}
+use Rattle.refusal.proofs.Numbers.{not_accepted}
 use Rattle.leaf_node.specs.Build.{put}
 use Rattle.leaf_builder.proofs.Putting.{put_none, put_put, length_put}
 use Rattle.overflow.specs.Read.{low_number, numbers_read, cell_size, cell_count, cell_numbers_read, pages_in, pages_right, page_bytes, joined_value, freed_numbers}
-use Rattle.overflow.specs.Verdict.{all_right, read_verdict}
+use Rattle.overflow.specs.Verdict.{all_right, read_verdict, join_verdict, free_verdict}
 use Rattle.overflow.specs.Outcome.{join_of, free_of}
-use Rattle.overflow.specs.Steps.{RightCell, CellRead}
+use Rattle.overflow.specs.Steps.{RightCell, WrongCell}
 use Rattle.overflow.proofs.Counts.{Sized, a_value_has_a_page, all_numbers_stand_in_the_first_page}
 use Rattle.overflow.proofs.Numbers.{put_next}
 use Rattle.overflow.proofs.Verdicts.{Readable, accepted_readings}
 use Rattle.overflow.proofs.Reading.{next_number_read, no_number_read, next_page_in, no_page_in, RightPages, right_pages_in_turn, next_joined, none_joined, bytes_of_a_page, length_numbers_read, numbers_stand_in_the_first_page}
 use Rattle.overflow_read.specs.Steps.{Checked, decoded_verdict}
-use Rattle.overflow_read.proofs.Checking.{counts_fit, the_number_of_a_reading}
+use Rattle.overflow_read.proofs.Checking.{counts_fit, the_number_of_a_wrong_cell, the_number_of_a_reading}
 
 -- ---- the bytes of all pages
 
@@ -158,75 +161,76 @@ module _ (c pages : List ℕ) (t size : ℕ) (r : RightCell c size t) where
 
 -- ---- the calls
 
-module _ (c pages : List ℕ) (ok : Bool) (size t : ℕ) (read : CellRead c ok size t) where
-  checked : (fits : Bool) → decoded_verdict ok size t pages fits ≡ 0 → RightCell c size t × (fits ≡ true) × Checked pages t size
+module _ (c pages : List ℕ) (r : Refusal) (w : WrongCell c r) where
+  pub a_wrong_cell_joins_nothing : (value : List ℕ) → value ≡ (join_of c pages value).value
+  unfolding join_of
+  a_wrong_cell_joins_nothing value = rw (← (the_number_of_a_wrong_cell c r w pages (leb (cell_size c) (length value))), not_accepted r)
+
+  pub a_wrong_cell_frees_nothing : (numbers : List ℕ) → numbers ≡ (free_of c pages numbers).numbers
+  unfolding free_of
+  a_wrong_cell_frees_nothing numbers = rw (← (the_number_of_a_wrong_cell c r w pages (leb (cell_count c) (length numbers))), not_accepted r)
+
+module _ (c pages : List ℕ) (size t : ℕ) (g : RightCell c size t) where
+  checked : (fits : Bool) → 0 ≡ decoded_verdict size t pages fits → (fits ≡ true) × Checked pages t size
   unfolding decoded_verdict all_right
   checked fits z =
-      let a : Readable c pages fits = accepted_readings c pages fits (sym (the_number_of_a_reading c ok size t pages fits fits read (λ _. refl)) ∙ z) in
-      let g : RightCell c size t = read.right (read.tested ∙ a.right) in
-      (g, a.fitting, record { there = rw g.counted a.there; right = rw (g.counted, g.sized) a.written })
+      let a : Readable c pages fits = accepted_readings c pages fits (sym (z ∙ the_number_of_a_reading c size t pages fits fits g refl)) in
+      (a.fitting, record { there = rw g.counted a.there; right = rw (g.counted, g.sized) a.written })
 
-  module _ (value : List ℕ) (v : ℕ) (ev : v ≡ decoded_verdict ok size t pages (leb size (length value))) where
-    join_number : v ≡ read_verdict c pages (leb (cell_size c) (length value))
-    join_number = ev ∙ the_number_of_a_reading c ok size t pages (leb size (length value)) (leb (cell_size c) (length value)) read (λ r. rw r.sized)
+  module _ (value : List ℕ) where
+    pub the_number_of_a_join : (n : ℕ) → n ≡ decoded_verdict size t pages (leb size (length value)) → n ≡ read_verdict c pages (leb (cell_size c) (length value))
+    the_number_of_a_join n e = e ∙ the_number_of_a_reading c size t pages (leb size (length value)) (leb (cell_size c) (length value)) g (rw g.sized)
 
-    module _ (h : v ≡ 0 → ⊥) where
-      pub a_refused_join : record { refusal = v; len = 0 } ≡ (join_of c pages value).reply
-      unfolding join_of
-      a_refused_join = rw (← join_number, ne_eqb v 0 h)
+    pub a_refused_value : (r : Refusal) → number r ≡ decoded_verdict size t pages (leb size (length value)) → value ≡ (join_of c pages value).value
+    unfolding join_of
+    a_refused_value r e = rw (← (the_number_of_a_join (number r) e), not_accepted r)
 
-      pub a_refused_value : value ≡ (join_of c pages value).value
-      unfolding join_of
-      a_refused_value = rw (← join_number, ne_eqb v 0 h)
-
-    module _ (h : v ≡ 0) where
-      facts : RightCell c size t × (leb size (length value) ≡ true) × Checked pages t size
-      facts = checked (leb size (length value)) (sym ev ∙ h)
-
+    module _ (e : 0 ≡ decoded_verdict size t pages (leb size (length value))) where
       pub pages_to_join : Checked pages t size
-      pages_to_join = facts.2
+      pages_to_join = (checked (leb size (length value)) e).1
 
       pub the_buffer_is_long : size ≤ length value
-      the_buffer_is_long = leb-true size (length value) facts.1
-
-      pub a_join : record { refusal = 0; len = size } ≡ (join_of c pages value).reply
-      unfolding join_of
-      a_join = rw (← join_number, h, facts.0.sized)
+      the_buffer_is_long = leb-true size (length value) (checked (leb size (length value)) e).0
 
       pub a_joined_value : (x : List ℕ) → x ≡ put value 0 (joined_value (pages_in t pages)) → x ≡ (join_of c pages value).value
       unfolding join_of
-      a_joined_value x e = e ∙ rw (← join_number, h, facts.0.counted)
+      a_joined_value x q = q ∙ rw (← (the_number_of_a_join 0 e), g.counted)
 
-  module _ (numbers : List ℕ) (v : ℕ) (ev : v ≡ decoded_verdict ok size t pages (leb t (length numbers))) where
-    free_number : v ≡ read_verdict c pages (leb (cell_count c) (length numbers))
-    free_number = ev ∙ the_number_of_a_reading c ok size t pages (leb t (length numbers)) (leb (cell_count c) (length numbers)) read (λ r. rw r.counted)
+  module _ (numbers : List ℕ) where
+    pub the_number_of_a_free : (n : ℕ) → n ≡ decoded_verdict size t pages (leb t (length numbers)) → n ≡ read_verdict c pages (leb (cell_count c) (length numbers))
+    the_number_of_a_free n e = e ∙ the_number_of_a_reading c size t pages (leb t (length numbers)) (leb (cell_count c) (length numbers)) g (rw g.counted)
 
-    module _ (h : v ≡ 0 → ⊥) where
-      pub a_refused_free : record { refusal = v; numbers = 0 } ≡ (free_of c pages numbers).reply
-      unfolding free_of
-      a_refused_free = rw (← free_number, ne_eqb v 0 h)
+    pub a_refused_list : (r : Refusal) → number r ≡ decoded_verdict size t pages (leb t (length numbers)) → numbers ≡ (free_of c pages numbers).numbers
+    unfolding free_of
+    a_refused_list r e = rw (← (the_number_of_a_free (number r) e), not_accepted r)
 
-      pub a_refused_list : numbers ≡ (free_of c pages numbers).numbers
-      unfolding free_of
-      a_refused_list = rw (← free_number, ne_eqb v 0 h)
-
-    module _ (h : v ≡ 0) where
-      freed_facts : RightCell c size t × (leb t (length numbers) ≡ true) × Checked pages t size
-      freed_facts = checked (leb t (length numbers)) (sym ev ∙ h)
-
-      pub a_cell_to_free : RightCell c size t
-      a_cell_to_free = freed_facts.0
-
+    module _ (e : 0 ≡ decoded_verdict size t pages (leb t (length numbers))) where
       pub pages_to_free : Checked pages t size
-      pages_to_free = freed_facts.2
+      pages_to_free = (checked (leb t (length numbers)) e).1
 
       pub the_list_is_long : t ≤ length numbers
-      the_list_is_long = leb-true t (length numbers) freed_facts.1
-
-      pub a_free : record { refusal = 0; numbers = t } ≡ (free_of c pages numbers).reply
-      unfolding free_of
-      a_free = rw (← free_number, h, freed_facts.0.counted)
+      the_list_is_long = leb-true t (length numbers) (checked (leb t (length numbers)) e).0
 
       pub a_freed_list : (x : List ℕ) → x ≡ put numbers 0 (cell_numbers_read c ++ freed_numbers (pages_in t pages)) → x ≡ (free_of c pages numbers).numbers
       unfolding free_of
-      a_freed_list x e = e ∙ rw (← free_number, h, freed_facts.0.counted)
+      a_freed_list x q = q ∙ rw (← (the_number_of_a_free 0 e), g.counted)
+
+-- ---- the replies
+
+module _ (c pages value : List ℕ) where
+  pub a_join : (len : ℕ) → len ≡ cell_size c → 0 ≡ join_verdict c pages (length value) → record { refusal = 0; len = len } ≡ (join_of c pages value).reply
+  unfolding join_of
+  a_join len q e = rw (← e, q)
+
+  pub a_refused_join : (r : Refusal) (n : ℕ) → n ≡ number r → number r ≡ join_verdict c pages (length value) → record { refusal = n; len = 0 } ≡ (join_of c pages value).reply
+  unfolding join_of
+  a_refused_join r n q e = rw (← e, not_accepted r, q)
+
+module _ (c pages numbers : List ℕ) where
+  pub a_free : (t : ℕ) → t ≡ cell_count c → 0 ≡ free_verdict c pages (length numbers) → record { refusal = 0; numbers = t } ≡ (free_of c pages numbers).reply
+  unfolding free_of
+  a_free t q e = rw (← e, q)
+
+  pub a_refused_free : (r : Refusal) (n : ℕ) → n ≡ number r → number r ≡ free_verdict c pages (length numbers) → record { refusal = n; numbers = 0 } ≡ (free_of c pages numbers).reply
+  unfolding free_of
+  a_refused_free r n q e = rw (← e, not_accepted r, q)

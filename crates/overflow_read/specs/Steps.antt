@@ -9,7 +9,7 @@ pub record Checked (pages : List ℕ) (t size : ℕ) : Type 0 where
   pub there : page_size * t ≤ length pages
   pub right : pages_right (t - cell_numbers) size (pages_in t pages) ≡ true
 
--- the refusal of a cell that was read and its pages, `read_verdict` in these terms
-unfoldable pub decoded_verdict : Bool → ℕ → ℕ → List ℕ → Bool → ℕ
-decoded_verdict ok size t pages fits =
-    cond ok (cond (fits && leb (page_size * t) (length pages)) (cond (pages_right (t - cell_numbers) size (pages_in t pages)) accepted bad_overflow) short_buffer) bad_overflow
+-- the refusal of a right cell, of this size and with t pages, and its pages: `read_verdict` in these terms
+unfoldable pub decoded_verdict : ℕ → ℕ → List ℕ → Bool → ℕ
+decoded_verdict size t pages fits =
+    cond (fits && leb (page_size * t) (length pages)) (cond (pages_right (t - cell_numbers) size (pages_in t pages)) accepted bad_overflow) short_buffer

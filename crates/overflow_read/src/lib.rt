@@ -2,9 +2,11 @@
 // `parse_page`. The caller lends the pages one behind the other, in the order of their numbers: the cell's, then those that stand in the pages.
 #![tactic(auto)]
 
-ghost use Rattle.std.specs.Prelude.{◌≡◌, ◌++◌, ◌+◌, ◌-◌, ◌*◌, ◌≤◌, ◌<◌, length, drop};
+ghost use Rattle.std.specs.Prelude.{◌≡◌, ◌++◌, ◌+◌, ◌-◌, ◌*◌, ◌≤◌, ◌<◌, length, drop, IfOk};
+ghost use Rattle.refusal.specs.Numbers.{number_of};
 ghost use Rattle.leaf_node.specs.Build.{put};
-ghost use Rattle.overflow.specs.Read.{all_zero, page_right, numbers_read, pages_in, pages_right, joined_value, cell_numbers_read, freed_numbers};
+ghost use Rattle.overflow.specs.Read.{all_zero, page_right, numbers_read, pages_in, pages_right, joined_value, cell_size, cell_count, cell_numbers_read, freed_numbers};
+ghost use Rattle.overflow.specs.Verdict.{join_verdict, free_verdict};
 ghost use Rattle.overflow.specs.Outcome.{join_of, free_of};
 ghost use Rattle.overflow.specs.Steps.{RightCell};
 ghost use Rattle.overflow_read.specs.Steps.{Checked, decoded_verdict};
@@ -13,26 +15,18 @@ use leaf_node::copy_in;
 use overflow::{
     Decoded, LeafFreed, LeafJoined, PageCount, decode_cell, half_at, in_cell, number_in, shape_at,
 };
-use refusal::{BAD_OVERFLOW, SHORT_BUFFER};
+use refusal::Refusal;
 
 // ---- the check of the pages
 
-fn wide(x: u8) -> u32
-    ensures { (result ≡ x) × (result < 256) }
-{
-    x as u32
-}
-
-// Whether all bytes from index `from` on are zeros: their sum is. A loop that ended at the first other byte, or a sum of 64 bits, would go byte by byte.
-fn zeros_from(bytes: &[u8], from: usize) -> bool
+// Whether all bytes are zeros: their sum is. A loop that ended at the first other byte, or a sum of 64 bits, would go byte by byte.
+fn all_zeros(bytes: &[u8]) -> bool
     requires { length bytes.now ≤ 4096 }
-    ensures { result ≡ all_zero (drop from bytes.now) }
+    ensures { result ≡ all_zero bytes.now }
 {
-    let mut sum = 0;
-    let mut i = from;
-    while i < bytes.len() {
-        sum += wide(bytes[i]);
-        i += 1;
+    let mut sum = 0u32;
+    for byte in bytes {
+        sum += u32::from(*byte);
     }
     sum == 0
 }
@@ -48,7 +42,7 @@ fn page_right(page: &[u8], numbers: usize, bytes: usize) -> bool
     if half_at(page, 2) != bytes {
         return false;
     }
-    zeros_from(page, 4 + 4 * numbers + bytes)
+    all_zeros(&page[4 + 4 * numbers + bytes..])
 }
 
 // The numbers that stand in the pages: those beyond the cell's.
@@ -63,11 +57,9 @@ fn pages_right(pages: &[u8], count: PageCount, size: usize) -> bool
     requires { 4096 * count.0 ≤ length pages.now }
     ensures { result ≡ pages_right (count.0 - 15) size (pages_in count.0 pages.now) }
 {
-    let t = count.0;
     let mut numbers = others(count);
     let mut bytes = size;
-    let mut i = 0;
-    while i < t {
+    for i in 0..count.0 {
         let shape = shape_at(numbers, bytes);
         let at = 4096 * i;
         if !page_right(&pages[at..at + 4096], shape.numbers, shape.bytes) {
@@ -75,27 +67,23 @@ fn pages_right(pages: &[u8], count: PageCount, size: usize) -> bool
         }
         numbers -= shape.numbers;
         bytes -= shape.bytes;
-        i += 1;
     }
     true
 }
 
-// No. 23 of a cell, then No. 22, where what is lent for the answer is too short (`fits`) or the pages are, then No. 23 of the pages.
-fn read_verdict(cell: Decoded, pages: &[u8], fits: bool) -> u8
+// No. 22, where what is lent for the answer is too short (`fits`) or the pages are, then No. 23 of the pages.
+fn read_verdict(cell: Decoded, pages: &[u8], fits: bool) -> Result<(), Refusal>
     requires { cell.pages.0 ≤ 257 }
-    ensures { result ≡ decoded_verdict cell.ok cell.size cell.pages.0 pages.now fits }
+    ensures { number_of result ≡ decoded_verdict cell.size cell.pages.0 pages.now fits }
 {
-    if !cell.ok {
-        return BAD_OVERFLOW;
-    }
     let count = cell.pages;
     if !(fits & (4096 * count.0 <= pages.len())) {
-        return SHORT_BUFFER;
+        return Err(Refusal::ShortBuffer);
     }
     if !pages_right(pages, count, cell.size) {
-        return BAD_OVERFLOW;
+        return Err(Refusal::BadOverflow);
     }
-    0
+    Ok(())
 }
 
 // ---- joining
@@ -105,12 +93,10 @@ fn join_pages(pages: &[u8], count: PageCount, size: usize, value: &mut [u8])
     requires { (Checked pages.now count.0 size) × (size ≤ length value.old) }
     ensures { value.new ≡ put value.old 0 (joined_value (pages_in count.0 pages.now)) }
 {
-    let t = count.0;
     let mut numbers = others(count);
     let mut bytes = size;
     let mut from = 0;
-    let mut i = 0;
-    while i < t {
+    for i in 0..count.0 {
         let shape = shape_at(numbers, bytes);
         let at = 4096 * i + 4 + 4 * shape.numbers;
         let end = at + shape.bytes;
@@ -118,8 +104,19 @@ fn join_pages(pages: &[u8], count: PageCount, size: usize, value: &mut [u8])
         from += shape.bytes;
         numbers -= shape.numbers;
         bytes -= shape.bytes;
-        i += 1;
     }
+}
+
+// Joins into the front of the buffer, where nothing refuses it. Answers the value's length.
+fn join_value(cell: &[u8], pages: &[u8], value: &mut [u8]) -> Result<usize, Refusal>
+    ensures number { number_of result ≡ join_verdict cell.now pages.now (length value.old) }
+    ensures len { IfOk result (λ len. len ≡ cell_size cell.now) }
+    ensures value_after { value.new ≡ (join_of cell.now pages.now value.old).value }
+{
+    let read = decode_cell(cell)?;
+    read_verdict(read, pages, read.size <= value.len())?;
+    join_pages(pages, read.pages, read.size, value);
+    Ok(read.size)
 }
 
 // The join call: the value's length, and the value in the front of the buffer.
@@ -127,16 +124,12 @@ pub fn join(cell: &[u8], pages: &[u8], value: &mut [u8]) -> LeafJoined
     ensures value { result ≡ (join_of cell.now pages.now value.old).reply }
     ensures value_after { value.new ≡ (join_of cell.now pages.now value.old).value }
 {
-    let read = decode_cell(cell);
-    let size = read.size;
-    let v = read_verdict(read, pages, size <= value.len());
-    if v != 0 {
-        return LeafJoined { refusal: v, len: 0 };
-    }
-    join_pages(pages, read.pages, size, value);
-    LeafJoined {
-        refusal: 0,
-        len: size,
+    match join_value(cell, pages, value) {
+        Ok(len) => LeafJoined { refusal: 0, len },
+        Err(refusal) => LeafJoined {
+            refusal: u8::from(refusal),
+            len: 0,
+        },
     }
 }
 
@@ -147,11 +140,9 @@ fn take_numbers(bytes: &[u8], from: usize, count: usize, out: &mut [u32], at: us
     requires { (from + 4 * count ≤ length bytes.now) × (at + count ≤ length out.old) }
     ensures { out.new ≡ put out.old at (numbers_read count (drop from bytes.now)) }
 {
-    let mut j = 0;
-    while j < count {
+    for j in 0..count {
         let number = number_in(bytes, from + 4 * j);
         out[at + j] = number.0;
-        j += 1;
     }
 }
 
@@ -165,23 +156,32 @@ fn delete(cell: &[u8], pages: &[u8], count: PageCount, size: usize, numbers: &mu
     take_numbers(pages, 4, others(count), numbers, first);
 }
 
+// Frees into the front of the list, where nothing refuses it. Answers how many numbers.
+fn free_numbers(cell: &[u8], pages: &[u8], numbers: &mut [u32]) -> Result<usize, Refusal>
+    ensures number { number_of result ≡ free_verdict cell.now pages.now (length numbers.old) }
+    ensures count { IfOk result (λ count. count ≡ cell_count cell.now) }
+    ensures numbers_after { numbers.new ≡ (free_of cell.now pages.now numbers.old).numbers }
+{
+    let read = decode_cell(cell)?;
+    let count = read.pages;
+    read_verdict(read, pages, count.0 <= numbers.len())?;
+    delete(cell, pages, count, read.size, numbers);
+    Ok(count.0)
+}
+
 // The free call: how many numbers, and the numbers in the front of the list.
 pub fn free(cell: &[u8], pages: &[u8], numbers: &mut [u32]) -> LeafFreed
     ensures value { result ≡ (free_of cell.now pages.now numbers.old).reply }
     ensures numbers_after { numbers.new ≡ (free_of cell.now pages.now numbers.old).numbers }
 {
-    let read = decode_cell(cell);
-    let count = read.pages;
-    let v = read_verdict(read, pages, count.0 <= numbers.len());
-    if v != 0 {
-        return LeafFreed {
-            refusal: v,
+    match free_numbers(cell, pages, numbers) {
+        Ok(count) => LeafFreed {
+            refusal: 0,
+            numbers: count,
+        },
+        Err(refusal) => LeafFreed {
+            refusal: u8::from(refusal),
             numbers: 0,
-        };
-    }
-    delete(cell, pages, count, read.size, numbers);
-    LeafFreed {
-        refusal: 0,
-        numbers: count.0,
+        },
     }
 }

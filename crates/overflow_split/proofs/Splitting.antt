@@ -7,8 +7,11 @@ use native.Mathlib.Nat.{add-sub_cancel_left, sub-zero}
 use native.Mathlib.Omega.{arith}
 use lib.ListN.{length, take, drop, length-append, length-take, length-drop, drop_of_length-le}
 use lib.Seq.{take_all, take-take, drop-drop}
-use borrow.Author.Tests.{leb-true, leb-false, ne_eqb}
+use borrow.Author.Tests.{leb-true, leb-false}
 use lib.Dec.{leb}
+use Rattle.refusal.specs.declared.Refusal.{Refusal}
+use Rattle.refusal.specs.Numbers.{number}
+use Rattle.refusal.proofs.Numbers.{not_accepted}
 use Rattle.bit_ops.specs.Steps.{zeros}
 use Rattle.leaf_node.specs.Build.{put}
 use Rattle.leaf_builder.proofs.Putting.{take_drop, put_none, put_put, length_put}
@@ -129,56 +132,52 @@ others_are_a_part t f ns h e = go (leb 15 t) refl
         rw m (sym (drop_of_length-le (take t ns) {i = 15} (simp length-take (omega arith))))
 
 -- the cell's numbers
-firsts_are_a_part : (t f : ℕ) (ns : List ℕ) → f ≡ min t 15 → take (f - 0) (drop 0 ns) ≡ take 15 (take t ns)
+firsts_are_a_part : (t f : ℕ) (ns : List ℕ) → f ≡ min t 15 → take f ns ≡ take 15 (take t ns)
 firsts_are_a_part t f ns e = go (leb 15 t) refl
   where
-    go : (b : Bool) → leb 15 t ≡ b → take (f - 0) (drop 0 ns) ≡ take 15 (take t ns)
+    go : (b : Bool) → leb 15 t ≡ b → take f ns ≡ take 15 (take t ns)
     go true q =
-        let m : f - 0 ≡ 15 = omega (arith, leb-true 15 t q) in
+        let m : f ≡ 15 = omega (arith, leb-true 15 t q) in
         rw (m, take-take 15 t ns (leb-true 15 t q))
     go false q =
         let l = leb-false 15 t q in
-        let m : f - 0 ≡ t = omega arith in
+        let m : f ≡ t = omega arith in
         rw m (sym (take_all 15 (take t ns) (simp length-take (omega arith))))
 
-module _ (value hash numbers area : List ℕ) (v : ℕ) (e : v ≡ split_verdict (length value) (length numbers) (length area)) where
-  module _ (h : v ≡ 0 → ⊥) where
-    pub a_refused_reply : (r : LeafSplit) → r ≡ refused_split v → r ≡ (split_of value hash numbers area).reply
+module _ (value hash numbers area : List ℕ) where
+  module _ (r : Refusal) (e : number r ≡ split_verdict (length value) (length numbers) (length area)) where
+    pub a_refused_reply : (y : LeafSplit) → y ≡ refused_split (number r) → y ≡ (split_of value hash numbers area).reply
     unfolding split_of
-    a_refused_reply r q = q ∙ rw (← e, ne_eqb v 0 h)
+    a_refused_reply y q = q ∙ rw (← e, not_accepted r)
 
     pub a_refused_area : area ≡ (split_of value hash numbers area).area
     unfolding split_of
-    a_refused_area = rw (← e, ne_eqb v 0 h)
+    a_refused_area = rw (← e, not_accepted r)
 
-  module _ (h : v ≡ 0) where
+  module _ (e : 0 ≡ split_verdict (length value) (length numbers) (length area)) (t f : ℕ) (et : t ≡ page_count (length value)) (ef : f ≡ min t 15) where
     lent : Lent (length value) (length numbers) (length area)
-    lent = accepted_splittings (length value) (length numbers) (length area) (sym e ∙ h)
+    lent = accepted_splittings (length value) (length numbers) (length area) (sym e)
 
-    pub the_value_is_small : length value ≤ 1048576
-    the_value_is_small = lent.sized.most
+    pub the_list_has_the_numbers : t ≤ length numbers
+    the_list_has_the_numbers = rw et lent.listed
 
-    module _ (t f : ℕ) (et : t ≡ page_count (length value)) (ef : f ≡ min t 15) where
-      pub the_list_has_the_numbers : t ≤ length numbers
-      the_list_has_the_numbers = rw et lent.listed
+    pub the_first_numbers_are_there : f ≤ length numbers
+    the_first_numbers_are_there = omega (arith, the_list_has_the_numbers)
 
-      pub the_first_numbers_are_there : f ≤ length numbers
-      the_first_numbers_are_there = omega (arith, the_list_has_the_numbers)
+    pub the_area_has_the_pages : 4096 * t ≤ length area
+    the_area_has_the_pages = rw et lent.room
 
-      pub the_area_has_the_pages : 4096 * t ≤ length area
-      the_area_has_the_pages = rw et lent.room
+    pub a_written_area : (x : List ℕ) → x ≡ put area 0 (joined (pages_of t (take (t - f) (drop f numbers)) value)) → x ≡ (split_of value hash numbers area).area
+    unfolding split_of split_pages
+    a_written_area x q =
+        q ∙ rw (others_are_a_part t f numbers the_list_has_the_numbers ef, et, ← e)
 
-      pub a_written_area : (x : List ℕ) → x ≡ put area 0 (joined (pages_of t (take (t - f) (drop f numbers)) value)) → x ≡ (split_of value hash numbers area).area
-      unfolding split_of split_pages
-      a_written_area x q =
-          q ∙ rw (others_are_a_part t f numbers the_list_has_the_numbers ef, et, ← e, h)
-
-      pub a_written_reply : length hash ≡ 32 → (c : List ℕ) → c ≡ padded (cell_of (length value) hash (take (f - 0) (drop 0 numbers)))
-          → record { refusal = 0; cell = c; cell_len = 40 + 4 * f; pages = t } ≡ (split_of value hash numbers area).reply
-      unfolding split_of
-      a_written_reply lh c q =
-          let same : cell_of (length value) hash (take (f - 0) (drop 0 numbers)) ≡ cell_of (length value) hash (take t numbers) =
-          rw (firsts_are_a_part t f numbers ef) (the_first_fifteen (length value) hash (take t numbers)) in
-          let long : 40 + 4 * f ≡ length (cell_of (length value) hash (take t numbers)) =
-          sym (length_cell (length value) hash (take t numbers) lh ∙ simp length-take (omega (arith, the_list_has_the_numbers))) in
-          rw (q, same, long, et, ← e, h)
+    pub a_written_reply : length hash ≡ 32 → (c : List ℕ) → c ≡ padded (cell_of (length value) hash (take f numbers))
+        → record { refusal = 0; cell = c; cell_len = 40 + 4 * f; pages = t } ≡ (split_of value hash numbers area).reply
+    unfolding split_of
+    a_written_reply lh c q =
+        let same : cell_of (length value) hash (take f numbers) ≡ cell_of (length value) hash (take t numbers) =
+        rw (firsts_are_a_part t f numbers ef) (the_first_fifteen (length value) hash (take t numbers)) in
+        let long : 40 + 4 * f ≡ length (cell_of (length value) hash (take t numbers)) =
+        sym (length_cell (length value) hash (take t numbers) lh ∙ simp length-take (omega (arith, the_list_has_the_numbers))) in
+        rw (q, same, long, et, ← e)

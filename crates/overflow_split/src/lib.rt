@@ -2,9 +2,11 @@
 // the Rust allocates, and one area for the pages, in `chunk`'s order.
 #![tactic(auto)]
 
-ghost use Rattle.std.specs.Prelude.{◌≡◌, ◌++◌, ◌+◌, ◌*◌, ◌≤◌, length};
+ghost use Rattle.std.specs.Prelude.{◌≡◌, ◌++◌, ◌+◌, ◌*◌, ◌≤◌, length, IfOk};
+ghost use Rattle.refusal.specs.Numbers.{number, number_of};
 ghost use Rattle.leaf_node.specs.Build.{put};
 ghost use Rattle.leaf_model.specs.Basics.{joined};
+ghost use Rattle.overflow.specs.Count.{page_count};
 ghost use Rattle.overflow.specs.Written.{low_bytes, page_of, pages_of};
 ghost use Rattle.overflow.specs.Verdict.{split_verdict};
 ghost use Rattle.overflow.specs.Outcome.{split_of};
@@ -13,10 +15,9 @@ ghost use Rattle.overflow_split.specs.Steps.{refused_split};
 use leaf_builder::clear_between;
 use leaf_node::copy_in;
 use overflow::{
-    LeafSplit, PageCount, encode_cell, in_cell, put_low, put_numbers, shape_at, size_right,
-    total_needed_pages,
+    LeafSplit, PageCount, encode_cell, in_cell, page_count, put_low, put_numbers, shape_at,
 };
-use refusal::{OVERFLOW_LENGTH, SHORT_BUFFER};
+use refusal::Refusal;
 
 // A page's head: how many numbers, how many bytes.
 fn put_head(area: &mut [u8], at: usize, numbers: usize, bytes: usize)
@@ -44,42 +45,36 @@ fn chunk(value: &[u8], numbers: &[u32], pages: PageCount, area: &mut [u8])
     requires { 4096 * pages.0 ≤ length area.old }
     ensures { area.new ≡ put area.old 0 (joined (pages_of pages.0 numbers.now value.now)) }
 {
-    let t = pages.0;
     let mut n = 0;
     let mut from = 0;
-    let mut i = 0;
-    while i < t {
+    for i in 0..pages.0 {
         let shape = shape_at(numbers.len() - n, value.len() - from);
         let last = n + shape.numbers;
         let to = from + shape.bytes;
         put_page(area, 4096 * i, &numbers[n..last], &value[from..to]);
         n = last;
         from = to;
-        i += 1;
     }
 }
 
-// No. 21 of the value, then No. 22 of the numbers and the area.
-fn split_verdict(len: usize, numbers: usize, area: usize) -> u8
-    ensures { result ≡ split_verdict len numbers area }
+// How many pages a value takes: No. 21 of the value, then No. 22 of the numbers and the area.
+fn split_verdict(len: usize, numbers: usize, area: usize) -> Result<PageCount, Refusal>
+    ensures number { number_of result ≡ split_verdict len numbers area }
+    ensures count { IfOk result (λ t. t.0 ≡ page_count len) }
 {
-    if !size_right(len) {
-        return OVERFLOW_LENGTH;
+    let pages = page_count(len)?;
+    if (pages.0 <= numbers) & (4096 * pages.0 <= area) {
+        return Ok(pages);
     }
-    let t = total_needed_pages(len);
-    if (t.0 <= numbers) & (4096 * t.0 <= area) {
-        return 0;
-    }
-    SHORT_BUFFER
+    Err(Refusal::ShortBuffer)
 }
 
-fn refused_split(n: u8) -> LeafSplit
-    ensures { result ≡ refused_split n }
+fn refused_split(refusal: Refusal) -> LeafSplit
+    ensures { result ≡ refused_split (number refusal) }
 {
-    let cell = [0u8; 100];
     LeafSplit {
-        refusal: n,
-        cell: cell,
+        refusal: u8::from(refusal),
+        cell: [0; 100],
         cell_len: 0,
         pages: 0,
     }
@@ -90,20 +85,17 @@ pub fn split(value: &[u8], hash: &[u8; 32], numbers: &[u32], area: &mut [u8]) ->
     ensures value { result ≡ (split_of value.now hash.now numbers.now area.old).reply }
     ensures area_after { area.new ≡ (split_of value.now hash.now numbers.now area.old).area }
 {
-    let v = split_verdict(value.len(), numbers.len(), area.len());
-    if v != 0 {
-        return refused_split(v);
-    }
-    let pages = total_needed_pages(value.len());
-    let t = pages.0;
+    let pages = match split_verdict(value.len(), numbers.len(), area.len()) {
+        Ok(pages) => pages,
+        Err(refusal) => return refused_split(refusal),
+    };
     let first = in_cell(pages);
-    let zero = 0;
-    let cell = encode_cell(value.len(), hash, &numbers[zero..first]);
-    chunk(value, &numbers[first..t], pages, area);
+    let cell = encode_cell(value.len(), hash, &numbers[..first]);
+    chunk(value, &numbers[first..pages.0], pages, area);
     LeafSplit {
         refusal: 0,
-        cell: cell,
+        cell,
         cell_len: 40 + 4 * first,
-        pages: t,
+        pages: pages.0,
     }
 }

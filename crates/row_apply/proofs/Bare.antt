@@ -22,7 +22,7 @@ use Rattle.leaf_model.proofs.Lists.{all_map}
 use Rattle.leaf_model.proofs.Plan.{kept_records_wait_for_a_merge}
 use Rattle.leaf_work.specs.declared.Entry.{Entry}
 use Rattle.leaf_work.proofs.Laid.{an_ignored_page_has_no_records}
-use Rattle.leaf_step.proofs.Closed.{a_page_has_4096_bytes}
+use Rattle.leaf_open.proofs.Openings.{a_page_has_4096_bytes}
 use Rattle.row_turns.specs.Row.{RowLeaf, is_from_zero}
 use Rattle.row_turns.specs.Changes.{Edit, EditsRight, changed_all, inserted_body, row_pages_asked}
 use Rattle.row_turns.specs.Turns.{Turned, load_verdict, digested_to, loaded, turns, nothing_yet, row_turned}

@@ -2,12 +2,15 @@
 use mathlib.Core.Path.{◌≡◌, refl, sym, ap, ◌∙◌}
 use mathlib.Core.Bool.{Bool, true, false, cond}
 use mathlib.Core.List.{List, [], ◌∷◌}
-use Prim.Native.Nat.{ℕ, zero, suc, ◌+◌, ◌-◌, ◌≤◌, ◌<◌}
+use Prim.Native.Nat.{ℕ, ◌+◌, ◌-◌, ◌≤◌, ◌<◌}
 use native.Mathlib.Omega.{arith}
 use lib.Dec.{eqb}
-use lib.ListN.{length, get_or, take, replicate, length-replicate}
-use lib.Seq.{take_all}
+use lib.ListN.{length, get_or, replicate, length-replicate}
 use borrow.Author.Tests.{eq-eqb, ne_eqb, eqb-true, eqb-false}
+use Rattle.refusal.specs.declared.Refusal.{Refusal}
+use Rattle.refusal.specs.Numbers.{number}
+use Rattle.refusal.proofs.Refused.{refused}
+use native.Mathlib.Numerals.{add-one}
 use Rattle.bit_ops.specs.Steps.{zeros}
 use Rattle.leaf_node.specs.Build.{put}
 use Rattle.leaf_node.specs.Fits.{All, nil, cons}
@@ -15,7 +18,7 @@ use Rattle.leaf_node.proofs.Copying.{put_all}
 use Rattle.leaf_model.specs.Basics.{cleared}
 use Rattle.leaf_work.specs.declared.Entry.{Entry}
 use Rattle.leaf_work.specs.Lent.{blank}
-use Rattle.leaf_step.proofs.Closed.{a_page_has_4096_bytes}
+use Rattle.leaf_open.proofs.Openings.{a_page_has_4096_bytes}
 use Rattle.row_turns.specs.Row.{is_from_zero}
 use Rattle.row_turns.specs.Turns.{Turned}
 use Rattle.row_check.specs.Verdict.{row_verdict}
@@ -28,23 +31,9 @@ use Rattle.row_apply.specs.Apply.{reply_by, RowTaken, RowReady, RowSays, RowClos
 
 -- ---- changes that were read
 
-pub record ReadUpTo (changes : List (List ℕ)) (i : ℕ) : Type 0 where
-  pub upto : i ≤ length changes
-  pub read : All (λ c. length c ≡ 40) (take i changes)
-
-pub none_is_read : (changes : List (List ℕ)) → ReadUpTo changes 0
-none_is_read changes = record { upto = omega arith; read = nil }
-
-one_more : (xs : List (List ℕ)) (i : ℕ) → i < length xs → All (λ c. length c ≡ 40) (take i xs) → length (get_or xs i []) ≡ 40 → All (λ c. length c ≡ 40) (take (suc i) xs)
-one_more [] i h a k = absurd (omega arith)
-one_more (x ∷ xs) zero h a k = cons k nil
-one_more (x ∷ xs) (suc i) h (cons y a) k = cons y (one_more xs i (omega arith) a k)
-
-pub one_more_is_read : (changes : List (List ℕ)) (i : ℕ) → ReadUpTo changes i → i < length changes → length (get_or changes i []) ≡ 40 → ReadUpTo changes (i + 1)
-one_more_is_read changes i r h k = let e : i + 1 ≡ suc i = omega arith in record { upto = omega arith; read = rw e (one_more changes i h r.read k) }
-
-pub all_are_read : (changes : List (List ℕ)) (i : ℕ) → ReadUpTo changes i → length changes ≤ i → All (λ c. length c ≡ 40) changes
-all_are_read changes i r h = rw (take_all i changes h) at r.read
+pub all_are_as_long : (n : ℕ) (xs : List (List ℕ)) → ((i : ℕ) → i < length xs → length (get_or xs i []) ≡ n) → All (λ x. length x ≡ n) xs
+all_are_as_long n [] h = nil
+all_are_as_long n (x ∷ xs) h = cons (h 0 (omega arith)) (all_are_as_long n xs (λ i l. rw add-one at (h (i + 1) (omega arith))))
 
 -- ---- zeros
 
@@ -100,14 +89,11 @@ module _ (list : List Entry) (store pages : List ℕ) (separators changes : List
     tickets_are = g ∙ ap (λ (x : RowOutcome). x.tickets) (sym e);
   }
 
-  pub a_refused_row_changes_nothing : (v : ℕ) → v ≡ row_verdict 4096 n m pages separators changes (length values) (length area) (length tickets) → 0 < v → (r : LeafRow) → r ≡ record { refusal = v; pages = 0 }
-      → RowSays list store pages separators changes values area tickets r list store area tickets
-  a_refused_row_changes_nothing v e h r f =
-      let o = refused_before_its_turns_a_call_changes_nothing 4096 a_page_has_4096_bytes list store pages separators changes values area tickets (λ z. absurd (omega (arith, e, z, h))) in
-      says _ o r list store area tickets (ap (λ (x : LeafRow). x.refusal) f ∙ e) (ap (λ (x : LeafRow). x.pages) f) refl refl refl refl
-
-  pub none_is_earned : (v : ℕ) → v ≡ row_verdict 4096 n m pages separators changes (length values) (length area) (length tickets) → v ≤ 0 → RowReady list store pages separators changes values area tickets
-  none_is_earned v e h = sym e ∙ omega (arith, h)
+  pub a_refused_row_changes_nothing : (f : Refusal) → number f ≡ row_verdict 4096 n m pages separators changes (length values) (length area) (length tickets) → (v : ℕ) → v ≡ number f
+      → (r : LeafRow) → r ≡ record { refusal = v; pages = 0 } → RowSays list store pages separators changes values area tickets r list store area tickets
+  a_refused_row_changes_nothing f e v q r p =
+      let o = refused_before_its_turns_a_call_changes_nothing 4096 a_page_has_4096_bytes list store pages separators changes values area tickets (λ z. refused f (e ∙ z)) in
+      says _ o r list store area tickets (ap (λ (x : LeafRow). x.refusal) p ∙ (q ∙ e)) (ap (λ (x : LeafRow). x.pages) p) refl refl refl refl
 
   module _ (h : RowReady list store pages separators changes values area tickets) (k : All (λ s. length s ≡ 32) separators) (c : All (λ x. length x ≡ 40) changes)
       (list₁ : List Entry) (el : list₁ ≡ cleared blank list 0) (store₁ : List ℕ) (es : store₁ ≡ zeros (length store)) where

@@ -9,11 +9,9 @@ ghost use Rattle.row_leaves.specs.Turns.{RowThere};
 ghost use Rattle.row_apply.specs.Apply.{is_bare, reply_by, RowTaken, RowClosed, RowReady, RowSays};
 
 use leaf_builder::clear_between;
-use leaf_digest::read_keys;
 use leaf_entries::drain;
 use leaf_node::PAGE_SIZE;
 use leaf_work::Entry;
-use row_changes::put_at;
 use row_check::row_verdict;
 use row_leaf::{RowAt, leaf_at, load_leaf};
 use row_leaves::{all_turns, begin_row};
@@ -27,17 +25,6 @@ pub struct LeafRow {
 }
 
 // ---- what is lent
-
-// That a change has 40 bytes is known of one that was read. The loop finds out nothing else, and the compiler drops it.
-fn read_changes(changes: &[[u8; 40]])
-    ensures { All (λ c. length c ≡ 40) changes.now }
-{
-    let mut i = 0;
-    while i < changes.len() {
-        put_at(&changes[i]);
-        i += 1;
-    }
-}
 
 // All bytes are zeros.
 fn clear(bytes: &mut [u8])
@@ -160,8 +147,6 @@ fn accepted_row(
     requires { RowReady list.old store.old pages.now separators.now changes.now values.now area.old tickets.old }
     ensures { RowSays list.old store.old pages.now separators.now changes.now values.now area.old tickets.old result list.new store.new area.new tickets.new }
 {
-    read_keys(separators);
-    read_changes(changes);
     drain(list, 0);
     clear(store);
     let at = take_turns(
@@ -183,7 +168,7 @@ pub fn apply_row(
 ) -> LeafRow
     ensures { RowSays list.old store.old pages.now separators.now changes.now values.now area.old tickets.old result list.new store.new area.new tickets.new }
 {
-    let number = row_verdict(
+    match row_verdict(
         list.len(),
         store.len(),
         pages,
@@ -193,14 +178,10 @@ pub fn apply_row(
         area.len(),
         tickets.len(),
         PAGE_SIZE,
-    );
-    if 0 < number {
-        let reply = refused_row(number);
-        reply
-    } else {
-        let reply = accepted_row(
+    ) {
+        Ok(()) => accepted_row(
             list, store, pages, separators, changes, values, area, tickets,
-        );
-        reply
+        ),
+        Err(refusal) => refused_row(u8::from(refusal)),
     }
 }

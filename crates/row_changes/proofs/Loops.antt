@@ -86,28 +86,33 @@ module _ (most : ℕ) (cs : List (List ℕ)) where
 -- ---- a test of neighbours
 
 module _ (cs : List (List ℕ)) where
+  -- the entry before i and those behind it decide
   pub record Compared (i : ℕ) : Type 0 where
-    pub within : i ≤ length cs
-    pub same : keys_rising (drop i cs) ≡ keys_rising cs
+    pub same : keys_rising (drop (i - 1) cs) ≡ keys_rising cs
 
-  pub none_is_compared : Compared 0
-  none_is_compared = record { within = omega arith; same = refl }
+  pub none_is_compared : Compared 1
+  none_is_compared = record { same = refl }
 
   module _ (i : ℕ) (h : Compared i) where
-    pub all_rise : length cs ≤ i + 1 → true ≡ keys_rising cs
-    all_rise l = sym (few (drop i cs) (omega (arith, length-drop i cs))) ∙ h.same
+    pub all_rise : length cs ≤ i → true ≡ keys_rising cs
+    all_rise l = sym (few (drop (i - 1) cs) (omega (arith, length-drop (i - 1) cs))) ∙ h.same
       where
         few : (xs : List (List ℕ)) → length xs ≤ 1 → keys_rising xs ≡ true
         few [] k = refl
         few (x ∷ []) k = refl
         few (x ∷ y ∷ ys) k = absurd (omega arith)
 
-    module _ (l : i + 1 < length cs) (x y : List ℕ) (e : x ≡ key_of (get_or cs i [])) (d : y ≡ key_of (get_or cs (i + 1) [])) (t : Bool) (q : t ≡ lt_key x y) where
-      parts_of : keys_rising (drop i cs) ≡ (lt_key x y && keys_rising (drop (i + 1) cs))
-      parts_of = rw (next cs i (omega arith), next cs (i + 1) l, e, d)
+    module _ (p : 1 ≤ i) (l : i < length cs) (x y : List ℕ) (e : x ≡ key_of (get_or cs (i - 1) [])) (d : y ≡ key_of (get_or cs i [])) (t : Bool) (q : t ≡ lt_key x y) where
+      parts_of : keys_rising (drop (i - 1) cs) ≡ (lt_key x y && keys_rising (drop i cs))
+      parts_of =
+          let m : i - 1 + 1 ≡ i = omega arith in
+          rw (next cs (i - 1) (omega arith), m, next cs i l, e, d)
 
       pub one_falls : not t ≡ true → false ≡ keys_rising cs
       one_falls k = let a : lt_key x y ≡ false = sym q ∙ not-true t k in sym (parts_of ∙ rw a) ∙ h.same
 
       pub one_more_rises : not t ≡ false → Compared (i + 1)
-      one_more_rises k = let a : lt_key x y ≡ true = sym q ∙ not-false t k in record { within = omega arith; same = sym (parts_of ∙ rw a) ∙ h.same }
+      one_more_rises k =
+          let a : lt_key x y ≡ true = sym q ∙ not-false t k in
+          let m : i + 1 - 1 ≡ i = omega arith in
+          record { same = rw m (sym (parts_of ∙ rw a) ∙ h.same) }

@@ -2,7 +2,7 @@
 use mathlib.Core.Path.{◌≡◌, refl, sym, ap, ◌∙◌}
 use mathlib.Core.Bool.{Bool, true, false, not, ◌&&◌}
 use mathlib.Core.List.{List, [], ◌∷◌}
-use Prim.Native.Nat.{ℕ, ◌+◌, ◌-◌, ◌*◌, ◌/◌, ◌≤◌, ◌<◌}
+use Prim.Native.Nat.{ℕ, ◌+◌, ◌-◌, ◌*◌, ◌/◌, ◌≤◌, ◌<◌, min}
 use native.Mathlib.Omega.{arith}
 use native.Mathlib.Decide.{dec_lt}
 use native.Mathlib.Nat.{le-div_iff_mul-le, div-lt_iff_lt-mul, div-mul-le_self, mul-le-mul, mul-le-mul_left}
@@ -46,11 +46,17 @@ module _ (ss : List (List ℕ)) where
 
 -- ---- No. 17
 
-pub fewer_area_pages : (size area tickets : ℕ) → area / size < tickets / 65 → area / size ≡ pages_lent size area tickets
+fewer_area_pages : (size area tickets : ℕ) → area / size < tickets / 65 → area / size ≡ pages_lent size area tickets
 fewer_area_pages size area tickets h = rw (lt-ltb (area / size) (tickets / 65) h)
 
-pub fewer_ticket_places : (size area tickets : ℕ) → tickets / 65 ≤ area / size → tickets / 65 ≡ pages_lent size area tickets
+fewer_ticket_places : (size area tickets : ℕ) → tickets / 65 ≤ area / size → tickets / 65 ≡ pages_lent size area tickets
 fewer_ticket_places size area tickets h = rw (le-ltb (area / size) (tickets / 65) h)
+
+pub the_fewer_are_lent : (size area tickets : ℕ) → min (area / size) (tickets / 65) ≡ pages_lent size area tickets
+the_fewer_are_lent size area tickets = elim (dec_lt (area / size) (tickets / 65)) [
+  | yes h ↦ omega (arith, h, fewer_area_pages size area tickets h)
+  | no h ↦ omega (arith, fewer_ticket_places size area tickets (omega arith))
+]
 
 module _ (size area tickets : ℕ) where
   abbrev P : ℕ

@@ -1,7 +1,13 @@
 -- Nos. 1 to 6 of a row, leaf by leaf: the lowest number. Assumes nothing.
+use Rattle.std.specs.Prelude as std
+use Rattle.std.specs.Prelude.{Result, Ok, Err}
+use Rattle.std.specs.Borrow.{Bor}
+use Rattle.std.specs.Slice.{IsItemAt}
+use Rattle.refusal.specs.declared.Refusal.{Refusal}
+use Rattle.refusal.specs.Numbers.{number, number_of}
+use Rattle.refusal.proofs.Numbers.{not_accepted}
 use mathlib.Core.Path.{◌≡◌, refl, sym, ap, ◌∙◌}
 use mathlib.Core.Bool.{true, ◌&&◌}
-use mathlib.Core.Option.{none, some}
 use mathlib.Core.List.{List, [], ◌∷◌}
 use Prim.Native.Nat.{ℕ, ◌+◌, ◌-◌, ◌*◌, ◌/◌, ◌%◌, ◌≤◌, ◌<◌}
 use native.Mathlib.Omega.{arith}
@@ -11,10 +17,10 @@ use native.Mathlib.Nat.{mul-le-mul_right, mul-div_cancel, div-add-mod'}
 use lib.Dec.{eqb, ltb}
 use lib.ListN.{length, get_or, take, drop, length-drop}
 use lib.Seq.{drop-cons, drop-drop}
-use borrow.Author.Tests.{eq-eqb, ne_eqb, eqb-true, lt-ltb, le-ltb}
+use borrow.Author.Tests.{eq-eqb, eqb-true, lt-ltb, le-ltb}
 use Rattle.leaf_node.specs.Limits.{PageSize}
 use Rattle.leaf_model.proofs.Tests.{and_left, and_right}
-use Rattle.leaf_work.specs.Tests.{key_if}
+use Rattle.leaf_work.specs.Tests.{key_if, lent_key}
 use Rattle.leaf_work.specs.Verdict.{base_verdict}
 use Rattle.leaf_work.proofs.Tests.{and_both, one_test}
 use Rattle.row_turns.specs.Row.{cutoff_by}
@@ -45,24 +51,24 @@ whole_pages_are_counted size pages n q = one_test (eqb (pages % size) 0 && eqb (
 
 -- ---- the lower of two
 
-module _ (v w : ℕ) where
-  pub none_before : v ≡ 0 → w ≡ lower v w
+module _ (v w : Result (Unit {0}) Refusal) where
+  pub none_before : (x : Unit {0}) → v ≡ Ok x → number_of w ≡ lower (number_of v) (number_of w)
   unfolding lower
-  none_before e = rw e
+  none_before x e = rw e
 
-  module _ (n : v ≡ 0 → ⊥) where
-    pub none_behind : w ≡ 0 → v ≡ lower v w
+  module _ (r : Refusal) (e : v ≡ Err r) where
+    pub none_behind : (x : Unit {0}) → w ≡ Ok x → number r ≡ lower (number_of v) (number_of w)
     unfolding lower
-    none_behind e = rw (ne_eqb v 0 n, eq-eqb w 0 e)
+    none_behind x f = rw (e, f, not_accepted r)
 
-    module _ (m : w ≡ 0 → ⊥) where
-      pub the_second_is_lower : w < v → w ≡ lower v w
+    module _ (q : Refusal) (f : w ≡ Err q) (a b : ℕ) (ea : a ≡ number q) (eb : b ≡ number r) where
+      pub the_second_is_lower : a < b → number q ≡ lower (number_of v) (number_of w)
       unfolding lower
-      the_second_is_lower l = rw (ne_eqb v 0 n, ne_eqb w 0 m, lt-ltb w v l)
+      the_second_is_lower l = rw (e, f, not_accepted r, not_accepted q, lt-ltb (number q) (number r) (omega (arith, l, ea, eb)))
 
-      pub the_first_is_lower : v ≤ w → v ≡ lower v w
+      pub the_first_is_lower : b ≤ a → number r ≡ lower (number_of v) (number_of w)
       unfolding lower
-      the_first_is_lower l = rw (ne_eqb v 0 n, ne_eqb w 0 m, le-ltb w v l)
+      the_first_is_lower l = rw (e, f, not_accepted r, not_accepted q, le-ltb (number q) (number r) (omega (arith, l, ea, eb)))
 
 -- ---- one leaf
 
@@ -78,13 +84,13 @@ module _ (size : ℕ) (pages : List ℕ) (separators : List (List ℕ)) (i : ℕ
   same_page : take (i * size + size - i * size) (drop (i * size) pages) ≡ take size (drop (i * size) pages)
   same_page = let e : i * size + size - i * size ≡ size = omega arith in ap (λ (n : ℕ). take n (drop (i * size) pages)) e
 
-  module _ (p s c : List ℕ) (ep : p ≡ take (i * size + size - i * size) (drop (i * size) pages)) (es : s ≡ get_or separators i []) where
-    pub the_last_leaf_has_no_cutoff : i + 1 ≡ length separators → (r : ℕ) → r ≡ base_verdict size p s none → r ≡ leaf_verdict size pages separators i
-    the_last_leaf_has_no_cutoff e r q = q ∙ rw (ep, es, same_page, le-ltb (i + 1) (length separators) (omega arith))
+  next_separator : (c : std.Option (Bor (List ℕ))) → IsItemAt separators (i + 1) c → lent_key c ≡ key_if (ltb (i + 1) (length separators)) (get_or separators (i + 1) [])
+  next_separator std.None h = rw (← h.0)
+  next_separator (std.Some k) h = rw (← h.0, h.4 (omega arith) [])
 
-    pub another_leaf_has_the_next_separator : i < length separators → (i + 1 ≡ length separators → ⊥) → c ≡ get_or separators (i + 1) [] → (r : ℕ) → r ≡ base_verdict size p s (some c)
-        → r ≡ leaf_verdict size pages separators i
-    another_leaf_has_the_next_separator l n ec r q = q ∙ rw (ep, es, ec, same_page, lt-ltb (i + 1) (length separators) (omega (arith, l, n)))
+  pub a_leaf_ends_at_the_next_separator : (p s : List ℕ) → p ≡ take (i * size + size - i * size) (drop (i * size) pages) → s ≡ get_or separators i [] → (c : std.Option (Bor (List ℕ)))
+      → IsItemAt separators (i + 1) c → (r : ℕ) → r ≡ base_verdict size p s (lent_key c) → r ≡ leaf_verdict size pages separators i
+  a_leaf_ends_at_the_next_separator p s ep es c h r q = q ∙ rw (ep, es, same_page, next_separator c h)
 
 -- ---- leaf after leaf
 

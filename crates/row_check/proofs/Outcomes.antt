@@ -20,7 +20,6 @@ use Rattle.leaf_work.specs.Digest.{overwrite}
 use Rattle.row_turns.specs.Row.{RowLeaf, cutoff_by, is_from_zero, row_tickets, pages_of}
 use Rattle.row_turns.specs.Turns.{Turned}
 use Rattle.row_turns.specs.Lookup.{lookup, expected}
-use Rattle.row_turns.proofs.NewRow as new
 use Rattle.row_turns.proofs.Separators.{Separated, separators_of_the_new_row_have_32_bytes}
 use Rattle.row_turns.proofs.Middle.{InTheMiddle, in_the_middle_15_or_16}
 use Rattle.row_changes.specs.Packed.{edits_of}

@@ -2,6 +2,7 @@
 #![tactic(auto)]
 
 ghost use Rattle.std.specs.Prelude.{◌≡◌, ◌*◌, ◌<◌, length};
+ghost use Rattle.refusal.specs.Numbers.{number_of};
 ghost use Rattle.leaf_node.specs.Limits.{PageSize};
 ghost use Rattle.row_changes.specs.Tests.{put_bodies};
 ghost use Rattle.row_check.specs.Steps.{leaf_verdict, pages_lent, WholeRow, LeafThere};
@@ -9,12 +10,10 @@ ghost use Rattle.row_check.specs.Verdict as says;
 ghost use Rattle.row_check.specs.Verdict.{row_of, whole_pages, leaves_verdict, short_from_zero, lent_row_verdict, row_has_pages, call_verdict, row_verdict};
 
 use leaf_base::base_verdict;
+use leaf_check::room_right;
 use leaf_pass::is_zero_key;
-use leaf_passed::room_fits;
-use refusal::{
-    KEY_TOO_LOW, LONG_ROW, LONG_VALUE, NO_SUCH_INDEX, PAGE_LENGTH, ROOM_LENGTH, SHORT_AREA,
-};
-use row_changes::{bodies_within, keys_rise, lengths_fit, values_there};
+use refusal::Refusal;
+use row_changes::{LeafChange, bodies_within, keys_rise, lengths_fit, values_there};
 
 // The most pages of a row.
 pub const MOST_LEAVES: usize = 16;
@@ -29,59 +28,40 @@ fn whole_pages(pages: usize, separators: usize, size: usize) -> bool
     (pages % size == 0) & (pages / size == separators)
 }
 
-// The lower of two refusals, 0 being none.
-fn lower(v: u8, w: u8) -> u8
-    ensures { result ≡ says.lower v w }
+// The lower of two refusals, where there are two.
+fn lower(v: Result<(), Refusal>, w: Result<(), Refusal>) -> Result<(), Refusal>
+    ensures { number_of result ≡ says.lower (number_of v) (number_of w) }
 {
-    if v == 0 {
-        return w;
-    }
-    if w == 0 {
-        return v;
-    }
-    if w < v {
+    let Err(first) = v else { return w };
+    let Err(second) = w else { return v };
+    if u8::from(second) < u8::from(first) {
         return w;
     }
     v
 }
 
-// Nos. 2 to 6 of leaf i.
-fn leaf_verdict(pages: &[u8], separators: &[[u8; 32]], i: usize, size: usize) -> u8
+// Nos. 2 to 6 of leaf i, whose cutoff is the next separator.
+fn leaf_verdict(pages: &[u8], separators: &[[u8; 32]], i: usize, size: usize) -> Result<(), Refusal>
     requires { LeafThere size pages.now separators.now i }
-    ensures { result ≡ leaf_verdict size pages.now separators.now i }
+    ensures { number_of result ≡ leaf_verdict size pages.now separators.now i }
 {
     let from = i * size;
     let to = from + size;
-    if i + 1 == separators.len() {
-        return base_verdict(
-            &pages[from..to],
-            &separators[i],
-            false,
-            &separators[i],
-            size,
-        );
-    }
-    base_verdict(
-        &pages[from..to],
-        &separators[i],
-        true,
-        &separators[i + 1],
-        size,
-    )
+    let cutoff = separators.get(i + 1);
+    base_verdict(&pages[from..to], &separators[i], cutoff, size)?;
+    Ok(())
 }
 
-// Nos. 2 to 6 of all leaves: the lowest number over all of them, v being that of the first i.
-fn leaves_verdict(pages: &[u8], separators: &[[u8; 32]], size: usize) -> u8
+// Nos. 2 to 6 of all leaves: the lowest number over all of them.
+fn leaves_verdict(pages: &[u8], separators: &[[u8; 32]], size: usize) -> Result<(), Refusal>
     requires { WholeRow size pages.now separators.now }
-    ensures { result ≡ leaves_verdict size 0 (row_of size pages.now separators.now) }
+    ensures { number_of result ≡ leaves_verdict size 0 (row_of size pages.now separators.now) }
 {
-    let mut v = 0u8;
-    let mut i = 0;
-    while i < separators.len() {
-        v = lower(v, leaf_verdict(pages, separators, i, size));
-        i += 1;
+    let mut lowest = Ok(());
+    for i in 0..separators.len() {
+        lowest = lower(lowest, leaf_verdict(pages, separators, i, size));
     }
-    v
+    lowest
 }
 
 // ---- No. 18
@@ -100,21 +80,18 @@ fn short_from_zero(separators: &[[u8; 32]]) -> bool
 }
 
 // What refuses a row alone: Nos. 1 to 6, and 18.
-pub fn lent_row_verdict(pages: &[u8], separators: &[[u8; 32]], size: usize) -> u8
+pub fn lent_row_verdict(pages: &[u8], separators: &[[u8; 32]], size: usize) -> Result<(), Refusal>
     requires { PageSize size }
-    ensures { result ≡ lent_row_verdict size pages.now separators.now }
+    ensures { number_of result ≡ lent_row_verdict size pages.now separators.now }
 {
     if !whole_pages(pages.len(), separators.len(), size) {
-        return PAGE_LENGTH;
+        return Err(Refusal::PageLength);
     }
-    let v = leaves_verdict(pages, separators, size);
-    if v != 0 {
-        return v;
-    }
+    leaves_verdict(pages, separators, size)?;
     if !short_from_zero(separators) {
-        return LONG_ROW;
+        return Err(Refusal::LongRow);
     }
-    0
+    Ok(())
 }
 
 // ---- the row call
@@ -124,15 +101,11 @@ fn pages_lent(area: usize, tickets: usize, size: usize) -> usize
     requires { PageSize size }
     ensures { result ≡ pages_lent size area tickets }
 {
-    let pages = area / size;
-    if pages < tickets / 65 {
-        return pages;
-    }
-    tickets / 65
+    (area / size).min(tickets / 65)
 }
 
 // No. 17: whether there is room for twice the n old pages, and for a page for each 2,047 of what is inserted.
-fn has_pages(n: usize, changes: &[[u8; 40]], area: usize, tickets: usize, size: usize) -> bool
+fn has_pages(n: usize, changes: &[LeafChange], area: usize, tickets: usize, size: usize) -> bool
     requires { (PageSize size) × (n * size < 18446744073709551616) }
     ensures { result ≡ row_has_pages size n (put_bodies changes.now) area tickets }
 {
@@ -148,34 +121,34 @@ fn call_verdict(
     list: usize,
     store: usize,
     separators: &[[u8; 32]],
-    changes: &[[u8; 40]],
+    changes: &[LeafChange],
     values: usize,
     area: usize,
     tickets: usize,
     size: usize,
-) -> u8
+) -> Result<(), Refusal>
     requires { (PageSize size) × (length separators.now * size < 18446744073709551616) }
-    ensures { result ≡ call_verdict size list store separators.now changes.now values area tickets }
+    ensures { number_of result ≡ call_verdict size list store separators.now changes.now values area tickets }
 {
-    if !room_fits(list, store, size) {
-        return ROOM_LENGTH;
+    if !room_right(list, store, size) {
+        return Err(Refusal::RoomLength);
     }
     if !values_there(changes, values) {
-        return NO_SUCH_INDEX;
+        return Err(Refusal::NoSuchIndex);
     }
     if !lengths_fit(changes, (size - 2) / 3 - 32) {
-        return LONG_VALUE;
+        return Err(Refusal::LongValue);
     }
     if !keys_rise(changes) {
-        return KEY_TOO_LOW;
+        return Err(Refusal::KeyTooLow);
     }
     if !has_pages(separators.len(), changes, area, tickets, size) {
-        return SHORT_AREA;
+        return Err(Refusal::ShortArea);
     }
     if !short_from_zero(separators) {
-        return LONG_ROW;
+        return Err(Refusal::LongRow);
     }
-    0
+    Ok(())
 }
 
 // What refuses a row and its changes before any turn is taken.
@@ -184,22 +157,19 @@ pub fn row_verdict(
     store: usize,
     pages: &[u8],
     separators: &[[u8; 32]],
-    changes: &[[u8; 40]],
+    changes: &[LeafChange],
     values: usize,
     area: usize,
     tickets: usize,
     size: usize,
-) -> u8
+) -> Result<(), Refusal>
     requires { PageSize size }
-    ensures { result ≡ row_verdict size list store pages.now separators.now changes.now values area tickets }
+    ensures { number_of result ≡ row_verdict size list store pages.now separators.now changes.now values area tickets }
 {
     if !whole_pages(pages.len(), separators.len(), size) {
-        return PAGE_LENGTH;
+        return Err(Refusal::PageLength);
     }
-    let v = leaves_verdict(pages, separators, size);
-    if v != 0 {
-        return v;
-    }
+    leaves_verdict(pages, separators, size)?;
     call_verdict(
         list, store, separators, changes, values, area, tickets, size,
     )

@@ -1,13 +1,13 @@
 -- The changes of a leaf, one after another: what has been taken so far leads to what all of them come to. Assumes nothing.
 use mathlib.Core.Path.{◌≡◌, refl, sym, ap, subst, ◌∙◌}
-use mathlib.Core.Bool.{Bool, true, false, cond}
+use mathlib.Core.Bool.{Bool, true, false}
 use mathlib.Core.List.{List, [], ◌∷◌}
 use Prim.Native.Nat.{ℕ, zero, suc, ◌+◌, ◌≤◌, ◌<◌}
 use native.Mathlib.Omega.{arith}
 use lib.Dec.{eqb}
-use lib.ListN.{length, set, get_or, drop, length-set}
+use lib.ListN.{length, get_or, drop}
 use lib.Seq.{drop-drop, drop-length}
-use borrow.Author.Tests.{eq-eqb, eqb-true}
+use borrow.Author.Tests.{eqb-true}
 use Rattle.leaf_node.specs.Record.{Record}
 use Rattle.leaf_model.specs.Tally.{changed}
 use Rattle.leaf_work.specs.declared.Entry.{Entry}
@@ -17,7 +17,7 @@ use Rattle.leaf_work.specs.Verdict.{first}
 use Rattle.leaf_work.specs.Outcome.{ingest_number, Ingested}
 use Rattle.leaf_ingest.specs.Steps.{Takes}
 use Rattle.leaf_ingest.proofs.Ingests.{accepted_things_take_an_ingest}
-use Rattle.leaf_step.proofs.Closed.{a_page_has_4096_bytes}
+use Rattle.leaf_open.proofs.Openings.{a_page_has_4096_bytes}
 use Rattle.row_turns.specs.Changes.{Edit, changed_all}
 use Rattle.row_turns.specs.Turns.{room_verdict, rooms_verdict}
 use Rattle.row_changes.specs.Packed.{key_of, value_length, change_of, edits_of}
@@ -25,22 +25,13 @@ use Rattle.row_changes.specs.Tests.{values_length}
 use Rattle.row_work.specs.Loaded.{Loaded, Stays}
 use Rattle.row_work.proofs.Ingesting as ingesting
 use Rattle.row_ingest.specs.declared.Taking.{Taking}
-use Rattle.row_ingest.specs.declared.ChangeStep.{ChangeStep}
-use Rattle.row_ingest.specs.Taking.{until_refused, ChangeThere, ingested_by, ChangeTaken, ChangesThere, ChangesTaken}
+use Rattle.row_ingest.specs.Taking.{ChangeThere, ingested_by, ChangeTaken, ChangesThere, ChangesTaken}
 
 -- the first element of what is left, and the rest
 split_off : (xs : List (List ℕ)) (i : ℕ) → i < length xs → drop i xs ≡ get_or xs i [] ∷ drop (i + 1) xs
 split_off [] i h = absurd (omega arith)
 split_off (x ∷ xs) zero h = refl
 split_off (x ∷ xs) (suc i) h = let n : suc (i + 1) ≡ suc i + 1 = omega arith in split_off xs i (omega arith) ∙ ap (λ (m : ℕ). get_or xs i [] ∷ drop m (x ∷ xs)) n
-
-no_further : (t : Taking) (end : ℕ) → until_refused t end ≤ end
-unfolding until_refused
-no_further t end = go (eqb t.number 0)
-  where
-    go : (b : Bool) → cond b end 0 ≤ end
-    go true = omega arith
-    go false = omega arith
 
 first_agrees : (n y y' : ℕ) → (n ≡ 0 → y ≡ y') → first n y ≡ first n y'
 first_agrees n y y' f = go (eqb n 0) refl
@@ -70,18 +61,14 @@ module _ (start : Taking) (list : List Entry) (store page : List ℕ) (changes :
     pub cutoff : cutoff_of t.work ≡ cutoff_of start.work
     pub ends : changed_all (edits i t.value) (pending_of t.work list' store' page) ≡ changed_all (edits_of changes values) P
 
-  pub record TakenTo (t : Taking) (end : ℕ) (list' : List Entry) (store' : List ℕ) (i : ℕ) : Type 0 where
-    pub end_is : end ≡ until_refused t (length changes)
-    pub end_within : end ≤ until_refused start (length changes)
+  pub record TakenTo (t : Taking) (list' : List Entry) (store' : List ℕ) (i : ℕ) : Type 0 where
     pub list_long : length list' ≡ length list
     pub store_long : length store' ≡ length store
     pub number_is : first t.number (rooms_verdict (length list) (length store) (edits i t.value) (pending_of t.work list' store' page)) ≡ whole
     pub goes_on : t.number ≡ 0 → GoesOn t list' store' i
 
-  pub nothing_taken_yet : (end : ℕ) → end ≡ until_refused start (length changes) → TakenTo start end list store 0
-  nothing_taken_yet end e = record {
-    end_is = e;
-    end_within = omega (arith, e);
+  pub nothing_taken_yet : TakenTo start list store 0
+  nothing_taken_yet = record {
     list_long = refl;
     store_long = refl;
     number_is = ap (λ (es : List Edit). first start.number (rooms_verdict (length list) (length store) es P)) from_start;
@@ -98,19 +85,7 @@ module _ (start : Taking) (list : List Entry) (store page : List ℕ) (changes :
       from_start : edits 0 start.value ≡ edits_of changes values
       from_start = ap (λ (v : ℕ). edits_of changes (drop v values)) h.from
 
-  module _ (t : Taking) (end : ℕ) (list' : List Entry) (store' : List ℕ) (i : ℕ) (k : TakenTo t end list' store' i) (less : i < end) where
-    going : t.number ≡ 0
-    unfolding until_refused
-    going = go (eqb t.number 0) refl
-      where
-        go : (b : Bool) → eqb t.number 0 ≡ b → t.number ≡ 0
-        go true e = eqb-true t.number 0 e
-        go false e = let z : end ≡ 0 = k.end_is ∙ rw e in absurd (omega (arith, less, z))
-
-    all_there : end ≡ length changes
-    unfolding until_refused
-    all_there = k.end_is ∙ rw (eq-eqb t.number 0 going)
-
+  module _ (t : Taking) (list' : List Entry) (store' : List ℕ) (i : ℕ) (k : TakenTo t list' store' i) (less : i < length changes) (going : t.number ≡ 0) where
     on : GoesOn t list' store' i
     on = k.goes_on going
 
@@ -118,7 +93,7 @@ module _ (start : Taking) (list : List Entry) (store page : List ℕ) (changes :
     c = get_or changes i []
 
     left_is : drop i changes ≡ c ∷ drop (i + 1) changes
-    left_is = split_off changes i (omega (arith, less, all_there))
+    left_is = split_off changes i (omega (arith, less))
 
     abbrev e : Edit
     e = record { key = key_of c; change = change_of c (drop t.value values) }
@@ -137,12 +112,8 @@ module _ (start : Taking) (list : List Entry) (store page : List ℕ) (changes :
     values_are : t.value + (value_length c + values_length (drop (i + 1) changes)) ≡ values_length changes
     values_are = ap (λ (cs : List (List ℕ)). t.value + values_length cs) (sym left_is) ∙ on.value_is
 
-    pub the_change_is_there : (entries : ℕ) → entries ≡ length list' → ChangeThere t entries store' page changes i values
-    the_change_is_there entries q = record {
-      takes = record { list = list'; long = sym q; takes = taking };
-      there = omega (arith, less, all_there);
-      value_there = omega (arith, values_are, h.values_there);
-    }
+    pub the_change_is_there : ChangeThere t list' store' page changes i values
+    the_change_is_there = record { takes = taking; there = less; value_there = omega (arith, values_are, h.values_there) }
       where
         taking : Takes 4096 t.work list' store' page
         taking =
@@ -150,12 +121,9 @@ module _ (start : Taking) (list : List Entry) (store page : List ℕ) (changes :
 
     -- ---- one more
 
-    module _ (r : ChangeStep) (store'' : List ℕ) (m : ChangeTaken t list' store' page c values r store'') where
+    module _ (r : Taking) (list'' : List Entry) (store'' : List ℕ) (m : ChangeTaken t list' store' page c values r list'' store'') where
       abbrev o : Ingested
       o = ingested_by t list' store' page c values
-
-      abbrev list'' : List Entry
-      list'' = set (set list' r.at r.chunk) r.next r.insert
 
       room_is : ingest_number o.reply ≡ room_verdict (length list) (length store) (changed (key_of c) (change_of c (drop t.value values)) (pending_of t.work list' store' page))
       room_is =
@@ -174,40 +142,39 @@ module _ (start : Taking) (list : List Entry) (store page : List ℕ) (changes :
           ∙ sym (rw going)
           ∙ k.number_is
 
-      module _ (z : r.taking.number ≡ 0) where
+      module _ (z : r.number ≡ 0) where
         none : ingest_number o.reply ≡ 0
         none = sym m.number_is ∙ z
 
         stays : Stays t.work o.work o.list o.store page P'
         stays = ingesting.an_ingest_makes_its_change 4096 a_page_has_4096_bytes t.work list' store' page e later loaded_here none
 
-        pending_after_lem : pending_of r.taking.work list'' store'' page ≡ P'
+        pending_after_lem : pending_of r.work list'' store'' page ≡ P'
         pending_after_lem = rw (m.work_is, m.list_is, m.store_is) stays.pending_is
 
-        goes_on_after : GoesOn r.taking list'' store'' (i + 1)
+        goes_on_after : GoesOn r list'' store'' (i + 1)
         goes_on_after = record {
-          within = omega (arith, less, all_there);
+          within = omega (arith, less);
           value_is = omega (arith, m.value_is, values_are);
           loaded = rw (m.work_is, m.list_is, m.store_is, m.value_is) (ingesting.an_ingest_goes_on 4096 a_page_has_4096_bytes t.work list' store' page e later loaded_here none);
           separator = rw m.work_is (stays.separator ∙ on.separator);
           cutoff = rw m.work_is (stays.cutoff ∙ on.cutoff);
           ends =
-              ap (λ (v : ℕ). changed_all (edits (i + 1) v) (pending_of r.taking.work list'' store'' page)) m.value_is
+              ap (λ (v : ℕ). changed_all (edits (i + 1) v) (pending_of r.work list'' store'' page)) m.value_is
               ∙ ap (changed_all later) pending_after_lem
               ∙ sym (ap (λ (es : List Edit). changed_all es (pending_of t.work list' store' page)) edits_are)
               ∙ on.ends;
         }
 
-      pub one_more_is_taken : (end' : ℕ) → end' ≡ until_refused r.taking end → TakenTo r.taking end' list'' store'' (i + 1)
-      one_more_is_taken end' q = record {
-        end_is = q ∙ ap (until_refused r.taking) all_there;
-        end_within = omega (arith, q, no_further r.taking end, k.end_within);
-        list_long = length-set (set list' r.at r.chunk) r.next r.insert ∙ length-set list' r.at r.chunk ∙ k.list_long;
+      pub one_more_is_taken : TakenTo r list'' store'' (i + 1)
+      one_more_is_taken = record {
+        list_long =
+            ap length m.list_is ∙ (ingesting.an_ingest_keeps_the_lengths 4096 a_page_has_4096_bytes t.work list' store' page e later loaded_here).0 ∙ k.list_long;
         store_long =
             ap length m.store_is ∙ (ingesting.an_ingest_keeps_the_lengths 4096 a_page_has_4096_bytes t.work list' store' page e later loaded_here).1 ∙ k.store_long;
         number_is =
-            ap (λ (v : ℕ). first r.taking.number (rooms_verdict (length list) (length store) (edits (i + 1) v) (pending_of r.taking.work list'' store'' page))) m.value_is
-            ∙ first_agrees r.taking.number _ _ (λ z. ap (rooms_verdict (length list) (length store) later) (pending_after_lem z))
+            ap (λ (v : ℕ). first r.number (rooms_verdict (length list) (length store) (edits (i + 1) v) (pending_of r.work list'' store'' page))) m.value_is
+            ∙ first_agrees r.number _ _ (λ z. ap (rooms_verdict (length list) (length store) later) (pending_after_lem z))
             ∙ ap (λ (n : ℕ). first n (rooms_verdict (length list) (length store) later P')) m.number_is
             ∙ from_here;
         goes_on = goes_on_after;
@@ -215,14 +182,13 @@ module _ (start : Taking) (list : List Entry) (store page : List ℕ) (changes :
 
   -- ---- all of them
 
-  module _ (t : Taking) (end : ℕ) (list' : List Entry) (store' : List ℕ) (i : ℕ) (k : TakenTo t end list' store' i) (past : end ≤ i) where
+  module _ (t : Taking) (list' : List Entry) (store' : List ℕ) (i : ℕ) (k : TakenTo t list' store' i) (past : t.number ≡ 0 → length changes ≤ i) where
     module _ (z : t.number ≡ 0) where
       on_end : GoesOn t list' store' i
       on_end = k.goes_on z
 
       at_the_end : i ≡ length changes
-      unfolding until_refused
-      at_the_end = let e : end ≡ length changes = k.end_is ∙ rw (eq-eqb t.number 0 z) in omega (arith, e, past, on_end.within)
+      at_the_end = omega (arith, past z, on_end.within)
 
       none_left : drop i changes ≡ []
       none_left = ap (λ (n : ℕ). drop n changes) at_the_end ∙ drop-length changes

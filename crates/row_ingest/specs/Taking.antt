@@ -1,32 +1,28 @@
 -- Document 02, M-101: what the steps over a leaf's changes require, and what they make, by the definitions of an ingest and of the room in the middle.
-use Rattle.std.specs.Prelude.{◌≡◌, true, false, cond, List, [], ℕ, ◌+◌, ◌≤◌, ◌<◌, eqb, length, set, get_or, drop}
+use Rattle.std.proofs.Math.Option.{Option, none, some}
+use Rattle.std.specs.Prelude.{◌≡◌, true, false, List, [], ℕ, ◌+◌, ◌≤◌, ◌<◌, length, get_or, drop}
+use Rattle.leaf_model.specs.Work.{Change}
 use Rattle.leaf_work.specs.declared.Entry.{Entry}
 use Rattle.leaf_work.specs.Pending.{pending_of}
 use Rattle.leaf_work.specs.Verdict.{first}
 use Rattle.leaf_work.specs.Outcome.{ingest_number, Ingested, ingest_on}
-use Rattle.leaf_ingest.specs.declared.Change.{Change}
-use Rattle.leaf_ingest.specs.declared.Change.TheVariants.{Put, Delete}
-use Rattle.leaf_take.specs.Listing.{TakesWithin}
+use Rattle.leaf_ingest.specs.Steps.{Takes}
 use Rattle.row_turns.specs.Changes.{changed_all}
 use Rattle.row_turns.specs.Turns.{rooms_verdict}
 use Rattle.row_changes.specs.Packed.{key_of, is_put, flag_of, value_length, change_of, edits_of}
 use Rattle.row_changes.specs.Tests.{values_length}
 use Rattle.row_work.specs.Loaded.{Loaded, Stays}
 use Rattle.row_ingest.specs.declared.Taking.{Taking}
-use Rattle.row_ingest.specs.declared.ChangeStep.{ChangeStep}
 
 -- "either a deletion or a value's length and flag"
-abbrev pub change_at : List ℕ → Change
-change_at c = elim (is_put c) [ true ↦ Put (flag_of c) | false ↦ Delete ]
-
-unfoldable pub until_refused : Taking → ℕ → ℕ
-until_refused t end = cond (eqb t.number 0) end 0
+abbrev pub change_by : List ℕ → List ℕ → Option Change
+change_by c value = elim (is_put c) [ true ↦ some (record { value = value; flag = flag_of c }) | false ↦ none ]
 
 -- ---- one change
 
 -- its value is there, and the work takes an ingest
-pub record ChangeThere (t : Taking) (entries : ℕ) (store page : List ℕ) (changes : List (List ℕ)) (i : ℕ) (values : List ℕ) : Type 0 where
-  pub takes : TakesWithin 4096 t.work entries store page
+pub record ChangeThere (t : Taking) (list : List Entry) (store page : List ℕ) (changes : List (List ℕ)) (i : ℕ) (values : List ℕ) : Type 0 where
+  pub takes : Takes 4096 t.work list store page
   pub there : i < length changes
   pub value_there : t.value + value_length (get_or changes i []) ≤ length values
 
@@ -34,11 +30,11 @@ pub record ChangeThere (t : Taking) (entries : ℕ) (store page : List ℕ) (cha
 abbrev pub ingested_by : Taking → List Entry → List ℕ → List ℕ → List ℕ → List ℕ → Ingested
 ingested_by t list store page c values = ingest_on 4096 t.work list store page (key_of c) (change_of c (drop t.value values)) 0
 
-pub record ChangeTaken (t : Taking) (list : List Entry) (store page c values : List ℕ) (r : ChangeStep) (store' : List ℕ) : Type 0 where
-  pub number_is : r.taking.number ≡ ingest_number (ingested_by t list store page c values).reply
-  pub work_is : r.taking.work ≡ (ingested_by t list store page c values).work
-  pub value_is : r.taking.value ≡ t.value + value_length c
-  pub list_is : set (set list r.at r.chunk) r.next r.insert ≡ (ingested_by t list store page c values).list
+pub record ChangeTaken (t : Taking) (list : List Entry) (store page c values : List ℕ) (r : Taking) (list' : List Entry) (store' : List ℕ) : Type 0 where
+  pub number_is : r.number ≡ ingest_number (ingested_by t list store page c values).reply
+  pub work_is : r.work ≡ (ingested_by t list store page c values).work
+  pub value_is : r.value ≡ t.value + value_length c
+  pub list_is : list' ≡ (ingested_by t list store page c values).list
   pub store_is : store' ≡ (ingested_by t list store page c values).store
 
 -- ---- all of them

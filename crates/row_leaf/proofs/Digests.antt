@@ -1,49 +1,43 @@
 -- A loaded leaf that is digested: what the digest requires, and that its leaves come behind those of the new row. Assumes nothing.
 use mathlib.Core.Path.{◌≡◌, refl, sym, ap, subst, ◌∙◌}
-use mathlib.Core.Logic.{inl}
 use mathlib.Core.Bool.{true}
 use mathlib.Core.Option.{Option}
 use mathlib.Core.List.{List, [], ◌∷◌, ◌++◌, map, append-nil}
 use Prim.Native.Nat.{ℕ, ◌+◌, ◌-◌, ◌*◌, ◌≤◌, ◌<◌}
 use native.Mathlib.Omega.{arith}
-use lib.ListN.{length, take, drop, replicate, length-map, length-drop, length-append, take-append-drop}
+use lib.ListN.{length, take, drop, replicate, length-drop, length-append}
 use lib.Seq.{take-length, drop-length, drop-drop}
 use borrow.Author.Tests.{le-leb}
+use Rattle.std.specs.Prelude as std
+use Rattle.std.specs.Option.{is_some}
 use Rattle.leaf_node.specs.Limits.{PageSize, merge_below, pages_asked}
 use Rattle.leaf_node.specs.Record.{Record, body, total}
-use Rattle.leaf_node.specs.Page.{count}
 use Rattle.leaf_node.specs.Build.{put}
 use Rattle.leaf_node.specs.Fits.{All}
 use Rattle.leaf_node.proofs.Lengths.{body_is_pointers_and_values}
 use Rattle.leaf_model.specs.Basics.{nonempty}
 use Rattle.leaf_model.specs.Cut.{Cut}
 use Rattle.leaf_model.specs.Work.{Leaf, plan, leaves_by, separator_after}
-use Rattle.leaf_model.proofs.Lists.{all_left}
 use Rattle.leaf_model.proofs.Cutting.{Fitting}
 use Rattle.leaf_model.proofs.Plan.{leaves_never_more_than_pages_asked}
 use Rattle.leaf_work.specs.declared.Work.{Work}
 use Rattle.leaf_work.specs.declared.Entry.{Entry}
-use Rattle.leaf_work.specs.Tests.{is_set}
-use Rattle.leaf_work.specs.Lent.{blank, cutoff_of, separator_of, regarded}
+use Rattle.leaf_work.specs.Lent.{cutoff_of, separator_of, regarded}
 use Rattle.leaf_work.specs.Pending.{pending_of}
-use Rattle.leaf_work.specs.Flat.{row_of, rows_of, keys_of}
-use Rattle.leaf_work.specs.Ready as ready
 use Rattle.leaf_work.specs.Verdict.{lent_verdict, has_pages, digest_verdict}
 use Rattle.leaf_work.specs.Digest.{Digested, digest_reply_by, pages_of, tickets_of, ticket_of, digest_done}
 use Rattle.leaf_work.proofs.Tests.{and_both}
 use Rattle.leaf_work.proofs.Laid.{pending_parts}
 use Rattle.leaf_work.proofs.Readiness as readiness
-use Rattle.leaf_work.proofs.PendingRecords.{EntryKeyed}
 use Rattle.leaf_builder.proofs.Putting.{put_parts}
-use Rattle.leaf_check.specs.Settled.{Regardable}
-use Rattle.leaf_step.proofs.Closed.{a_page_has_4096_bytes}
-use Rattle.leaf_digest.specs.Reply.{gave_out}
-use Rattle.leaf_digest.proofs.Calls.{the_regarded_page_can_be_counted, an_accepted_work_is_ready, all_that_is_pending_has_room, an_accepted_work_can_be_digested_over}
+use Rattle.leaf_open.proofs.Openings.{a_page_has_4096_bytes}
+use Rattle.leaf_digest.specs.declared.Given.{Given}
+use Rattle.leaf_digest.specs.Reply.{waits_for, given_of}
+use Rattle.leaf_digest.specs.Steps.{Leaves}
 use Rattle.leaf_claim.proofs.Reached.{Reached, separator_has_32_bytes, cutoff_has_32_bytes}
 use Rattle.leaf_claim.proofs.Leaves.{tickets_are_read_back}
-use Rattle.digest_keep.proofs.Lists.{the_list_of_its_rows_and_keys}
-use Rattle.digest.specs.declared.DigestStep.{DigestStep}
-use Rattle.digest.specs.Steps.{Ready, Made, outcome_of}
+use Rattle.digest.specs.Steps.{Ready, outcome_of}
+use Rattle.digest.proofs.Calls.{an_accepted_work_is_ready}
 use Rattle.row_work.specs.Loaded.{Rests}
 use Rattle.row_work.proofs.Holds.{state, the_work_is_reached}
 use Rattle.row_work.proofs.Digesting.{a_digest_rests}
@@ -120,28 +114,10 @@ module _ (at : RowAt) (taken : Taking) (list : List Entry) (store page : List �
     unfolding digest_verdict
     none_earned = rw (same_pending, sound, h.loaded.opened, has_room)
 
-    counted : Regardable 4096 page
-    counted = the_regarded_page_can_be_counted 4096 w list store page rest own none_earned page (sym h.loaded.whole)
-
-    used_keyed : All EntryKeyed (take w.used list)
-    used_keyed = all_left (take w.used list) (drop w.used list) (rw (take-append-drop w.used list) h.loaded.holds.entries)
-
-    its : ready.Ready w list store (regarded w page)
-    its = an_accepted_work_is_ready 4096 w list store page rest own none_earned q
-
-    ready_for_it : Ready 4096 w list store page rest own
-    ready_for_it =
-        let again = the_list_of_its_rows_and_keys list in
-        record {
-          digests = an_accepted_work_can_be_digested_over 4096 w list store page rest own none_earned q used_keyed (rows_of list) (keys_of list)
-              (ap (take w.used) again) (rw again its.used_in)
-              (inl (omega (arith, all_that_is_pending_has_room 4096 w list store page rest own none_earned q, length-map list row_of)))
-              (rw again its.list_there) (rw again its.list_short) page (sym h.loaded.whole);
-          unused = readiness.blanks 4096 w list store page sound ∙ ap (λ (i : ℕ). replicate i blank) (length-drop w.used list);
-        }
-
-    pub it_can_be_digested : (n : ℕ) → (n ≡ count page) × (n ≤ 32767) → (b : List ℕ) → b ≡ replicate 6565 0 → (Ready 4096 w list store page rest b) × (n ≡ count page)
-    it_can_be_digested n c b e = (subst (Ready 4096 w list store page rest) (sym e) ready_for_it, c.0)
+    pub it_can_be_digested : (b : List ℕ) → b ≡ replicate 6565 0 → Ready 4096 w list store page rest b
+    it_can_be_digested b e =
+        subst (Ready 4096 w list store page rest) (sym e)
+        (an_accepted_work_is_ready 4096 w list store page rest own (sym none_earned) q h.loaded.holds.entries page (sym h.loaded.whole))
 
     -- ---- what it gave
 
@@ -160,23 +136,25 @@ module _ (at : RowAt) (taken : Taking) (list : List Entry) (store page : List �
     few_leaves : length p.leaves ≤ asked
     few_leaves = leaves_never_more_than_pages_asked 4096 q c P fitting
 
-    module _ (r : DigestStep) (list' : List Entry) (store' rest' own' b : List ℕ) (eb : b ≡ replicate 6565 0) (m : Made (outcome_of 4096 w list store page rest b) r list' store' rest' own') where
+    module _ (r : Given) (w' : Work) (list' : List Entry) (store' rest' own' b : List ℕ) (eb : b ≡ replicate 6565 0)
+        (m : Leaves (outcome_of 4096 w list store page rest b) (given_of r) w' list' store' rest' own') where
       abbrev d : Digested
       d = digest_done 4096 w list store rest b p
 
-      so_many : r.reply.leaves ≡ length p.leaves
-      so_many = ap (λ x. x.leaves) m.reply_is ∙ leaves_of p.left
+      told : (left : List Record) (r : Given) → given_of r ≡ digest_reply_by left (length p.leaves) w.cutoff → (r.leaves ≡ length p.leaves) × (is_some r.cutoff ≡ nonempty left)
+      told left r e = go left r.cutoff e
         where
-          leaves_of : (left : List Record) → (gave_out (digest_reply_by left (length p.leaves) w.cutoff)).leaves ≡ length p.leaves
-          leaves_of [] = refl
-          leaves_of (x ∷ xs) = refl
+          go : (left : List Record) (c : std.Option (List ℕ)) → waits_for r.leaves c ≡ digest_reply_by left (length p.leaves) w.cutoff → (r.leaves ≡ length p.leaves) × (is_some c ≡ nonempty left)
+          go [] std.None e = (cc, refl)
+          go [] (std.Some k) e = cc
+          go (x ∷ xs) std.None e = cc
+          go (x ∷ xs) (std.Some k) e = (cc, refl)
 
-      waits_or_not : is_set r.reply.waiting ≡ nonempty p.left
-      waits_or_not = ap (λ x. is_set x.waiting) m.reply_is ∙ waiting_of p.left
-        where
-          waiting_of : (left : List Record) → is_set (gave_out (digest_reply_by left (length p.leaves) w.cutoff)).waiting ≡ nonempty left
-          waiting_of [] = refl
-          waiting_of (x ∷ xs) = refl
+      so_many : r.leaves ≡ length p.leaves
+      so_many = (told p.left r m.reply_is).0
+
+      waits_or_not : is_some r.cutoff ≡ nonempty p.left
+      waits_or_not = (told p.left r m.reply_is).1
 
       own_long : 6565 ≤ length own'
       own_long =
@@ -188,7 +166,7 @@ module _ (at : RowAt) (taken : Taking) (list : List Entry) (store page : List �
             ap length eb,
           )
 
-      pub its_leaves_can_be_linked : length tickets < 18446744073709551616 → LinkThere at taken r own' tickets
+      pub its_leaves_can_be_linked : length tickets < 18446744073709551616 → LinkThere at taken r.leaves own' tickets
       its_leaves_can_be_linked t = record {
         ticket_room = omega (arith, so_many, few_leaves, h.ticket_room);
         own_room = omega (arith, so_many, few_leaves, few_pages, own_long);
@@ -196,7 +174,7 @@ module _ (at : RowAt) (taken : Taking) (list : List Entry) (store page : List �
         value_fits_lem = h.value_fits_lem;
       }
 
-      separators_are : separators_read r.reply.leaves own' ≡ map (λ l. l.separator) leaves
+      separators_are : separators_read r.leaves own' ≡ map (λ l. l.separator) leaves
       separators_are =
           ap (λ (n : ℕ). separators_read n own') so_many
           ∙ ap (separators_read (length p.leaves)) m.tickets_are
@@ -218,11 +196,11 @@ module _ (at : RowAt) (taken : Taking) (list : List Entry) (store page : List �
           ∙ ap (λ (n : ℕ). take n area ++ (A ++ drop (n + length A) area)) f
           ∙ sym (put_parts area (at.leaves * 4096) A)
 
-      resting : Rests 4096 r.work list' store' p.left (separator_after (separator_of w) p.leaves p.left) c
+      resting : Rests 4096 w' list' store' p.left (separator_after (separator_of w) p.leaves p.left) c
       resting =
           rw (m.work_is, m.list_is, m.store_is) (a_digest_rests 4096 q w list store page rest b h.loaded (rw eb has_room))
 
-      pub its_leaves_are_given : (after : RowAt) (tickets' : List ℕ) → (after ≡ given_by at taken r to own') × (tickets' ≡ linked_all at.leaves at.last (separators_read r.reply.leaves own') tickets)
+      pub its_leaves_are_given : (after : RowAt) (tickets' : List ℕ) → (after ≡ given_by at taken r w' to own') × (tickets' ≡ linked_all at.leaves at.last (separators_read r.leaves own') tickets)
           → LeavesGiven at (separator_of w) c P to (at.value + taken.value) area tickets after list' store' (take from area ++ (rest' ++ drop (length area - from) (drop from area))) tickets'
       its_leaves_are_given after tickets' g = rw g.0 (record {
         none = refl;
@@ -235,6 +213,3 @@ module _ (at : RowAt) (taken : Taking) (list : List Entry) (store page : List �
         tickets_are = g.1 ∙ ap (λ (ss : List (List ℕ)). linked_all at.leaves at.last ss tickets) separators_are;
         rests = resting;
       })
-
-  pub its_page_can_be_counted : (PageSize 4096) × (Regardable 4096 page)
-  its_page_can_be_counted = (q, counted (at.leaves * 4096) refl)

@@ -11,16 +11,24 @@ use borrow.Author.Tests.{lt-ltb, le-ltb, le-leb, lt-leb, not-true, not-false}
 use Rattle.bit_ops.specs.Key.{lt_key}
 use Rattle.leaf_node.specs.Build.{put}
 use Rattle.leaf_node.specs.Page.{count}
-use Rattle.leaf_node.specs.Steps.{Laid}
 use Rattle.leaf_model.specs.Work.{zero_key, below_cutoff}
+use Rattle.std.specs.Prelude as std
+use Rattle.std.specs.Borrow.{Bor}
+use Rattle.std.specs.Option.{is_some}
+use Rattle.std.specs.Bool.{then_some}
+use Rattle.leaf_open.specs.Opening.{key_or_zeros}
+use Rattle.leaf_open.proofs.Openings.{a_page_has_4096_bytes}
+use Rattle.leaf_node.specs.Good.{Good}
+use Rattle.leaf_node.specs.Steps.{Counted}
+use Rattle.leaf_node.proofs.Reading.{good_pages_are_laid}
 use Rattle.leaf_work.specs.declared.Work.{Work}
-use Rattle.leaf_work.specs.Tests.{key_if, is_set}
+use Rattle.leaf_work.specs.Tests.{key_if}
 use Rattle.leaf_work.specs.Verdict.{follows_verdict}
 use Rattle.leaf_work.specs.Outcome.{fresh_work, next_base_work}
 use Rattle.row_changes.specs.Packed.{key_of}
 use Rattle.row_ingest.specs.declared.Taking.{Taking}
 use Rattle.row_tickets.specs.Linked.{separator_at, linked, linked_all, last_linked, separators_read}
-use Rattle.digest.specs.declared.DigestStep.{DigestStep}
+use Rattle.leaf_digest.specs.declared.Given.{Given}
 use Rattle.row_leaf.specs.declared.LeafAt.{LeafAt}
 use Rattle.row_leaf.specs.declared.RowAt.{RowAt}
 use Rattle.row_leaf.specs.Load.{given_by}
@@ -73,19 +81,19 @@ module _ (changes : List (List ℕ)) (from : ℕ) (leaf : LeafAt) (cut : not lea
   end_is : changes_end changes from leaf ≡ from + count_below (some leaf.cutoff) (drop from changes)
   end_is = ap (λ (o : Option (List ℕ)). from + count_below o (drop from changes)) cutoff_is
 
-  pub past_the_last : length changes ≤ i → i ≡ changes_end changes from leaf
+  pub past_the_last : length changes ≤ i → length changes ≡ changes_end changes from leaf
   past_the_last h =
       let z : drop i changes ≡ [] = none_left (drop i changes) (omega (arith, h, length-drop i changes)) in
-      omega (arith, k.is, ap (count_below (some leaf.cutoff)) z, end_is)
+      omega (arith, h, k.within, k.is, ap (count_below (some leaf.cutoff)) z, end_is)
     where
       none_left : (xs : List (List ℕ)) → length xs ≤ 0 → xs ≡ []
       none_left [] l = refl
       none_left (x ∷ xs) l = absurd (omega (arith, l))
 
 module _ (changes : List (List ℕ)) (from : ℕ) (cutoff : List ℕ) (i : ℕ) (k : CountedTo changes from cutoff i) (there : i < length changes) (key : List ℕ)
-    (e : (key ≡ key_of (get_or changes i [])) × (length key ≡ 32)) where
+    (e : key ≡ key_of (get_or changes i [])) where
   below_is : (b : Bool) → lt_key key cutoff ≡ b → below_cutoff (some cutoff) (key_of (get_or changes i [])) ≡ b
-  below_is b t = ap (λ (x : List ℕ). lt_key x cutoff) (sym e.0) ∙ t
+  below_is b t = ap (λ (x : List ℕ). lt_key x cutoff) (sym e) ∙ t
 
   the_first_not_below : (t : Bool) → t ≡ lt_key key cutoff → not t ≡ true → i ≡ from + count_below (some cutoff) (drop from changes)
   the_first_not_below t q n =
@@ -100,7 +108,7 @@ module _ (changes : List (List ℕ)) (from : ℕ) (cutoff : List ℕ) (i : ℕ) 
       record { within = omega (arith, there); is = omega (arith, k.is, z) }
 
 pub the_changes_end_there : (changes : List (List ℕ)) (from : ℕ) (leaf : LeafAt) → not leaf.cut ≡ false → (i : ℕ) → CountedTo changes from leaf.cutoff i → i < length changes → (key : List ℕ)
-    → (key ≡ key_of (get_or changes i [])) × (length key ≡ 32) → (t : Bool) → t ≡ lt_key key leaf.cutoff → not t ≡ true → i ≡ changes_end changes from leaf
+    → key ≡ key_of (get_or changes i []) → (t : Bool) → t ≡ lt_key key leaf.cutoff → not t ≡ true → i ≡ changes_end changes from leaf
 the_changes_end_there changes from leaf cut i k there key e t q n = the_first_not_below changes from leaf.cutoff i k there key e t q n ∙ sym (end_is changes from leaf cut i k)
 
 -- ---- a copy
@@ -111,25 +119,40 @@ a_leaf_is_copied at leaf pages area tickets area' tickets' last a t = record { i
 
 -- ---- the work of a leaf
 
-module _ (at : RowAt) (leaf : LeafAt) (page : List ℕ) (entries bytes : ℕ) where
-  pub a_leaf_is_opened : not at.waiting ≡ true → (w : Work) → w ≡ fresh_work false leaf.based (cond leaf.based leaf.separator zero_key) leaf.cut leaf.cutoff
-      → record { number = 0; work = w; value = 0 } ≡ begun_by at leaf page entries bytes
-  unfolding begun_by
-  a_leaf_is_opened n w e = rw (e, not-true at.waiting n)
+pub a_good_page_is_counted : (p : List ℕ) → Good 4096 p → (n : ℕ) → n ≡ count p → Counted p n
+a_good_page_is_counted p g n e = rw e (record { counted = refl; laid = λ h. good_pages_are_laid 4096 p a_page_has_4096_bytes g; short = omega (arith, g.sized) })
 
-  pub a_leaf_is_the_next_base : not at.waiting ≡ false → (v : ℕ) → v ≡ follows_verdict at.work page leaf.separator entries bytes
-      → (w : Work) → w ≡ next_base_work at.work leaf.separator leaf.cut leaf.cutoff → record { number = v; work = w; value = 0 } ≡ begun_by at leaf page entries bytes
-  unfolding begun_by
-  a_leaf_is_the_next_base n v d w e = rw (d, e, not-false at.waiting n)
+-- a key that is lent where it is there
+fresh_work_by_its_flags : (based cut : Bool) (s c : Bor (List ℕ)) → fresh_work false (is_some (then_some based s)) (key_or_zeros (then_some based s)) (is_some (then_some cut c)) (key_or_zeros (then_some cut c))
+    ≡ fresh_work false based (cond based s.now zero_key) cut c.now
+fresh_work_by_its_flags true true s c = refl
+fresh_work_by_its_flags true false s c = refl
+fresh_work_by_its_flags false true s c = refl
+fresh_work_by_its_flags false false s c = refl
 
-  pub its_page_can_follow : Begins at page entries bytes → not at.waiting ≡ false → (Laid page (count page)) × (count page ≤ entries) × (length page ≤ bytes)
-  its_page_can_follow h n = let w = not-false at.waiting n in (h.laid w, h.few w, h.short w)
+next_base_work_by_its_flag : (w : Work) (s : List ℕ) (cut : Bool) (c : Bor (List ℕ)) → next_base_work w s (is_some (then_some cut c)) (key_or_zeros (then_some cut c)) ≡ next_base_work w s cut c.now
+next_base_work_by_its_flag w s true c = refl
+next_base_work_by_its_flag w s false c = refl
+
+module _ (at : RowAt) (leaf : LeafAt) (page : List ℕ) (entries bytes : ℕ) (c : Bor (List ℕ)) (ec : c.now ≡ leaf.cutoff) (cutoff : std.Option (Bor (List ℕ))) (e : cutoff ≡ then_some leaf.cut c) where
+  pub a_leaf_is_opened : at.waiting ≡ false → (s : Bor (List ℕ)) → s.now ≡ leaf.separator → (separator : std.Option (Bor (List ℕ))) → separator ≡ then_some leaf.based s
+      → (w : Work) → w ≡ fresh_work false (is_some separator) (key_or_zeros separator) (is_some cutoff) (key_or_zeros cutoff) → record { number = 0; work = w; value = 0 } ≡ begun_by at leaf page entries bytes
+  unfolding begun_by
+  a_leaf_is_opened n s es separator f w g = rw (g, f, e, fresh_work_by_its_flags leaf.based leaf.cut s c, es, ec, n)
+
+  pub a_leaf_is_the_next_base : at.waiting ≡ true → (v : ℕ) → v ≡ follows_verdict at.work page leaf.separator entries bytes
+      → (w : Work) → w ≡ next_base_work at.work leaf.separator (is_some cutoff) (key_or_zeros cutoff) → record { number = v; work = w; value = 0 } ≡ begun_by at leaf page entries bytes
+  unfolding begun_by
+  a_leaf_is_the_next_base n v d w g = rw (d, g, e, next_base_work_by_its_flag at.work leaf.separator leaf.cut c, ec, n)
+
+pub its_page_can_follow : (at : RowAt) (page : List ℕ) (entries bytes n : ℕ) → Begins at page entries bytes → at.waiting ≡ true → n ≡ count page → (n ≤ entries) × (length page ≤ bytes)
+its_page_can_follow at page entries bytes n h w e = (rw e (h.few w), h.short w)
 
 -- ---- a digest's leaves
 
-pub leaves_are_given : (at : RowAt) (taken : Taking) (step : DigestStep) (to : ℕ) (own tickets tickets' last : List ℕ)
-    → (tickets' ≡ linked_all at.leaves at.last (separators_read step.reply.leaves own) tickets) × (last ≡ last_linked at.leaves at.last (separators_read step.reply.leaves own))
-    → (waiting : Bool) → waiting ≡ is_set step.reply.waiting
-    → (record { number = 0; leaves = at.leaves + step.reply.leaves; last = last; change = to; value = at.value + taken.value; waiting = waiting; work = step.work } ≡ given_by at taken step to own)
-    × (tickets' ≡ linked_all at.leaves at.last (separators_read step.reply.leaves own) tickets)
-leaves_are_given at taken step to own tickets tickets' last t waiting w = (rw (t.1, w), t.0)
+pub leaves_are_given : (at : RowAt) (taken : Taking) (given : Given) (work : Work) (to : ℕ) (own tickets tickets' last : List ℕ)
+    → (tickets' ≡ linked_all at.leaves at.last (separators_read given.leaves own) tickets) × (last ≡ last_linked at.leaves at.last (separators_read given.leaves own))
+    → (waiting : Bool) → waiting ≡ is_some given.cutoff
+    → (record { number = 0; leaves = at.leaves + given.leaves; last = last; change = to; value = at.value + taken.value; waiting = waiting; work = work } ≡ given_by at taken given work to own)
+    × (tickets' ≡ linked_all at.leaves at.last (separators_read given.leaves own) tickets)
+leaves_are_given at taken given work to own tickets tickets' last t waiting w = (rw (t.1, w), t.0)

@@ -15,7 +15,6 @@ use Rattle.leaf_node.specs.Record.{Record, body}
 use Rattle.leaf_node.specs.Page.{run, records_between, records}
 use Rattle.leaf_node.specs.Good.{Good}
 use Rattle.leaf_node.specs.Fits.{All}
-use Rattle.leaf_node.proofs.Reading.{good_pages_are_laid}
 use Rattle.leaf_model.specs.Basics.{nonempty}
 use Rattle.leaf_model.specs.Work.{zero_key, below_cutoff}
 use Rattle.leaf_model.specs.Claim.{Le}
@@ -29,7 +28,7 @@ use Rattle.leaf_work.specs.Verdict.{first, base_verdict, follows_verdict}
 use Rattle.leaf_work.specs.Outcome.{next_base_work}
 use Rattle.leaf_work.proofs.Laid.{an_ignored_page_has_no_records}
 use Rattle.leaf_work.proofs.BasePages.{base_page_is_good}
-use Rattle.leaf_step.proofs.Closed.{a_page_has_4096_bytes}
+use Rattle.leaf_open.proofs.Openings.{a_page_has_4096_bytes}
 use Rattle.row_turns.specs.Changes.{Edit, changed_all}
 use Rattle.row_turns.specs.Turns.{room_verdict, rooms_verdict, load_verdict}
 use Rattle.row_changes.specs.Packed.{edits_of}
@@ -42,7 +41,7 @@ use Rattle.row_ingest.specs.Taking.{ChangesThere, ChangesTaken}
 use Rattle.row_leaf.specs.declared.LeafAt.{LeafAt}
 use Rattle.row_leaf.specs.declared.RowAt.{RowAt}
 use Rattle.row_leaf.specs.Leaf.{cutoff_in, page_in, Begins, begun_by}
-use Rattle.row_leaf.specs.Load.{DigestThere, LeavesGiven, kept_by, begins_at, changes_in, edits_in, pending_in, LoadThere, refused_by, LeafLoaded}
+use Rattle.row_leaf.specs.Load.{PageThere, DigestThere, LeavesGiven, kept_by, begins_at, changes_in, edits_in, pending_in, LoadThere, refused_by, LeafLoaded}
 
 abbrev q : PageSize 4096
 q = a_page_has_4096_bytes
@@ -97,8 +96,13 @@ module _ (at : RowAt) (leaf : LeafAt) (list : List Entry) (store pages : List �
   abbrev m : ℕ
   m = length store
 
-  pub the_page_is_there : (leaf.from ≤ leaf.to) × (leaf.to ≤ length pages)
-  the_page_is_there = (h.leaf_right.from_to, h.leaf_right.page_there)
+  pub the_page_is_there : PageThere leaf pages
+  the_page_is_there = record {
+    from_to = h.leaf_right.from_to;
+    page_there = h.leaf_right.page_there;
+    good = λ e. base_page_is_good 4096 q page leaf.separator (cutoff_in leaf) (h.leaf_right.base e);
+    bare = λ e. (h.leaf_right.bare e).0;
+  }
 
   based : at.waiting ≡ true → leaf.based ≡ true
   based e = go leaf.based refl
@@ -109,7 +113,6 @@ module _ (at : RowAt) (leaf : LeafAt) (list : List Entry) (store pages : List �
 
   pub it_can_begin : Begins at page n m
   it_can_begin = record {
-    laid = λ e. good_pages_are_laid 4096 page q (good e);
     few = λ e. omega (arith, (good e).few, (room_is n m h.room).0);
     short = λ e. omega (arith, (good e).sized, (room_is n m h.room).1);
   }

@@ -3,7 +3,6 @@ use Rattle.std.specs.Prelude.{◌≡◌, Bool, true, false, cond, ◌||◌, List
 use Rattle.std.proofs.Math.Option.{Option}
 use Rattle.leaf_node.specs.Build.{put}
 use Rattle.leaf_node.specs.Page.{count}
-use Rattle.leaf_node.specs.Steps.{Laid}
 use Rattle.leaf_model.specs.Work.{zero_key, below_cutoff}
 use Rattle.leaf_work.specs.Tests.{key_if}
 use Rattle.leaf_work.specs.Verdict.{follows_verdict}
@@ -73,9 +72,8 @@ pub record LeafCopied (at : RowAt) (leaf : LeafAt) (pages area tickets : List �
 
 -- ---- the work of a leaf that is loaded
 
--- a page behind what waits is a good one
+-- a page behind what waits has no more records than the list has entries, and no more bytes than the store
 pub record Begins (at : RowAt) (page : List ℕ) (entries bytes : ℕ) : Type 0 where
-  pub laid : at.waiting ≡ true → Laid page (count page)
   pub few : at.waiting ≡ true → count page ≤ entries
   pub short : at.waiting ≡ true → length page ≤ bytes
 

@@ -1,22 +1,24 @@
 -- Document 02, M-101: a leaf that is loaded: its changes are taken, and what is pending is digested into the new row.
 use Rattle.std.specs.Prelude.{◌≡◌, true, false, cond, List, [], ◌++◌, map, ℕ, ◌+◌, ◌-◌, ◌*◌, ◌≤◌, ◌<◌, length, take, drop, replicate}
 use Rattle.std.proofs.Math.Option.{Option, some}
+use Rattle.std.specs.Option.{is_some}
 use Rattle.bit_ops.specs.Steps.{zeros}
 use Rattle.leaf_node.specs.Limits.{pages_asked}
 use Rattle.leaf_node.specs.Record.{Record, body}
 use Rattle.leaf_node.specs.Page.{records}
+use Rattle.leaf_node.specs.Good.{Good}
 use Rattle.leaf_node.specs.Build.{put}
 use Rattle.leaf_node.specs.Fits.{All}
 use Rattle.leaf_model.specs.Basics.{nonempty}
 use Rattle.leaf_model.specs.Work.{zero_key, below_cutoff, plan, leaves_by, separator_after}
 use Rattle.leaf_model.specs.Claim.{Le}
+use Rattle.leaf_work.specs.declared.Work.{Work}
 use Rattle.leaf_work.specs.declared.Entry.{Entry}
-use Rattle.leaf_work.specs.Tests.{is_set}
 use Rattle.leaf_work.specs.Lent.{blank, room_right, separator_of}
 use Rattle.leaf_work.specs.Pending.{pending_of}
 use Rattle.leaf_work.specs.Verdict.{base_verdict}
 use Rattle.leaf_work.specs.Digest.{pages_of}
-use Rattle.digest.specs.declared.DigestStep.{DigestStep}
+use Rattle.leaf_digest.specs.declared.Given.{Given}
 use Rattle.row_turns.specs.Changes.{Edit, EditsRight, changed_all}
 use Rattle.row_turns.specs.Turns.{load_verdict}
 use Rattle.row_changes.specs.Packed.{edits_of}
@@ -28,23 +30,32 @@ use Rattle.row_leaf.specs.declared.LeafAt.{LeafAt}
 use Rattle.row_leaf.specs.declared.RowAt.{RowAt}
 use Rattle.row_leaf.specs.Leaf.{cutoff_in, page_in}
 
+-- ---- its page
+
+-- a leaf of the row has a good page; that of a row without leaves has no bytes
+pub record PageThere (leaf : LeafAt) (pages : List ℕ) : Type 0 where
+  pub from_to : leaf.from ≤ leaf.to
+  pub page_there : leaf.to ≤ length pages
+  pub good : leaf.based ≡ true → Good 4096 (page_in leaf pages)
+  pub bare : leaf.based ≡ false → page_in leaf pages ≡ []
+
 -- ---- the leaves of a digest are linked
 
-pub record LinkThere (at : RowAt) (taken : Taking) (step : DigestStep) (own tickets : List ℕ) : Type 0 where
-  pub ticket_room : 65 * (at.leaves + step.reply.leaves) ≤ length tickets
-  pub own_room : 65 * step.reply.leaves ≤ length own
-  pub leaves_fit : at.leaves + step.reply.leaves < 18446744073709551616
+pub record LinkThere (at : RowAt) (taken : Taking) (leaves : ℕ) (own tickets : List ℕ) : Type 0 where
+  pub ticket_room : 65 * (at.leaves + leaves) ≤ length tickets
+  pub own_room : 65 * leaves ≤ length own
+  pub leaves_fit : at.leaves + leaves < 18446744073709551616
   pub value_fits_lem : at.value + taken.value < 18446744073709551616
 
-abbrev pub given_by : RowAt → Taking → DigestStep → ℕ → List ℕ → RowAt
-given_by at taken step to own = record {
+abbrev pub given_by : RowAt → Taking → Given → Work → ℕ → List ℕ → RowAt
+given_by at taken given work to own = record {
   number = 0;
-  leaves = at.leaves + step.reply.leaves;
-  last = last_linked at.leaves at.last (separators_read step.reply.leaves own);
+  leaves = at.leaves + given.leaves;
+  last = last_linked at.leaves at.last (separators_read given.leaves own);
   change = to;
   value = at.value + taken.value;
-  waiting = is_set step.reply.waiting;
-  work = step.work;
+  waiting = is_some given.cutoff;
+  work = work;
 }
 
 -- ---- a digest of what is pending

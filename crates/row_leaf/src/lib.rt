@@ -3,19 +3,20 @@
 #![tactic(auto)]
 
 ghost use Rattle.std.specs.Prelude.{◌≡◌, ◌+◌, ◌*◌, ◌≤◌, ◌<◌, length, replicate};
-ghost use Rattle.row_leaf.specs.Leaf.{next_separator, leaf_at, changes_end, is_loaded, Begins, begun_by, CopyThere, LeafCopied};
+ghost use Rattle.row_leaf.specs.Leaf.{next_separator, leaf_at, page_in, changes_end, is_loaded, Begins, begun_by, CopyThere, LeafCopied};
 ghost use Rattle.leaf_work.specs.Lent.{cutoff_of, separator_of};
 ghost use Rattle.leaf_work.specs.Pending.{pending_of};
 ghost use Rattle.row_tickets.specs.Linked.{linked_all, separators_read};
-ghost use Rattle.row_leaf.specs.Load.{LinkThere, given_by, DigestThere, LeavesGiven, LoadThere, refused_by, LeafLoaded};
+ghost use Rattle.row_leaf.specs.Load.{PageThere, LinkThere, given_by, DigestThere, LeavesGiven, LoadThere, refused_by, LeafLoaded};
 
 use bit_ops::less;
-use digest::{DigestStep, digest_ready};
+use digest::digest_ready;
 use leaf_again::{follows_verdict, next_base_work};
-use leaf_check::records_in;
-use leaf_node::{PAGE_SIZE, copy_in};
+use leaf_digest::Given;
+use leaf_node::{LeafNode, PAGE_SIZE, copy_in, count_of};
 use leaf_open::fresh_work;
 use leaf_work::{Entry, Work};
+use refusal::number_of;
 use row_changes::key_of;
 use row_ingest::{Taking, take_changes};
 use row_tickets::{link, link_leaves};
@@ -93,14 +94,12 @@ pub fn changes_end(changes: &[[u8; 40]], from: usize, leaf: LeafAt) -> usize
         return changes.len();
     }
     let cutoff = leaf.cutoff;
-    let mut i = from;
-    while i < changes.len() {
+    for i in from..changes.len() {
         if !less(key_of(&changes[i]), &cutoff) {
             return i;
         }
-        i += 1;
     }
-    i
+    changes.len()
 }
 
 // Whether a leaf is loaded: it takes a change, or records wait for a merge.
@@ -143,25 +142,41 @@ pub fn copy_leaf(
 
 // ---- loaded
 
-// The work of a leaf that is loaded: the next base of what waits, or opened.
-pub fn begin_leaf(at: RowAt, leaf: LeafAt, page: &[u8], entries: usize, bytes: usize) -> Taking
-    requires { Begins at page.now entries bytes }
-    ensures { result ≡ begun_by at leaf page.now entries bytes }
+// The base of a leaf: its page; that of a row without leaves has no records.
+fn base_of(leaf: LeafAt, pages: &[u8]) -> LeafNode<'_>
+    requires { PageThere leaf pages.now }
+    ensures { result.page.now ≡ page_in leaf pages.entry.now }
 {
-    let separator = leaf.separator;
-    let cutoff = leaf.cutoff;
+    let from = leaf.from;
+    let to = leaf.to;
+    let page = &pages[from..to];
+    if !leaf.based {
+        return LeafNode::ignored(page);
+    }
+    LeafNode {
+        page,
+        n: count_of(page),
+    }
+}
+
+// The work of a leaf that is loaded: the next base of what waits, or opened.
+pub fn begin_leaf(at: RowAt, leaf: LeafAt, node: LeafNode, entries: usize, bytes: usize) -> Taking
+    requires { Begins at node.page.now entries bytes }
+    ensures { result ≡ begun_by at leaf node.entry.page.now entries bytes }
+{
+    let cutoff = leaf.cut.then_some(&leaf.cutoff);
     if !at.waiting {
+        let separator = leaf.based.then_some(&leaf.separator);
         return Taking {
             number: 0,
-            work: fresh_work(false, leaf.based, &separator, leaf.cut, &cutoff),
+            work: fresh_work(false, separator, cutoff),
             value: 0,
         };
     }
-    let work = at.work;
-    let number = follows_verdict(work, page, &separator, entries, bytes);
+    let follows = follows_verdict(&at.work, node, &leaf.separator, entries, bytes);
     Taking {
-        number: number,
-        work: next_base_work(work, &separator, leaf.cut, &cutoff),
+        number: number_of(follows),
+        work: next_base_work(&at.work, &leaf.separator, cutoff),
         value: 0,
     }
 }
@@ -185,26 +200,25 @@ fn area_from(at: RowAt) -> usize
 fn link_given(
     at: RowAt,
     taken: Taking,
-    step: DigestStep,
+    given: Given,
+    work: Work,
     to: usize,
     own: &[u8],
     tickets: &mut [u8],
 ) -> RowAt
-    requires { LinkThere at taken step own.now tickets.old }
-    ensures { (result ≡ given_by at taken step to own.now) × (tickets.new ≡ linked_all at.leaves at.last (separators_read step.reply.leaves own.now) tickets.old) }
+    requires { LinkThere at taken given.leaves own.now tickets.old }
+    ensures { (result ≡ given_by at taken given work to own.now) × (tickets.new ≡ linked_all at.leaves at.last (separators_read given.leaves own.now) tickets.old) }
 {
-    let reply = step.reply;
     let before = at.last;
-    let last = link_leaves(tickets, at.leaves, &before, own, reply.leaves);
-    let work = step.work;
+    let last = link_leaves(tickets, at.leaves, &before, own, given.leaves);
     RowAt {
         number: 0,
-        leaves: at.leaves + reply.leaves,
-        last: last,
+        leaves: at.leaves + given.leaves,
+        last,
         change: to,
         value: at.value + taken.value,
-        waiting: reply.waiting != 0,
-        work: work,
+        waiting: given.cutoff.is_some(),
+        work,
     }
 }
 
@@ -214,37 +228,37 @@ fn digest_leaf(
     taken: Taking,
     list: &mut [Entry],
     store: &mut [u8],
-    page: &[u8],
+    node: LeafNode,
     to: usize,
     area: &mut [u8],
     tickets: &mut [u8],
 ) -> RowAt
-    requires { DigestThere at taken list.old store.old page.now area.old tickets.old }
-    ensures { LeavesGiven at (separator_of taken.work) (cutoff_of taken.work) (pending_of taken.work list.old store.old page.now) to (at.value + taken.value) area.old tickets.old result list.new store.new area.new tickets.new }
+    requires { DigestThere at taken list.old store.old node.page.now area.old tickets.old }
+    ensures { LeavesGiven at (separator_of taken.work) (cutoff_of taken.work) (pending_of taken.work list.old store.old node.entry.page.now) to (at.value + taken.value) area.old tickets.old result list.new store.new area.new tickets.new }
 {
-    let n = records_in(page, PAGE_SIZE);
     let from = area_from(at);
     let mut own = no_tickets();
-    let step = digest_ready(
-        taken.work,
+    let mut work = taken.work;
+    let given = digest_ready(
+        &mut work,
         list,
         store,
-        page,
-        n,
+        node,
         &mut area[from..],
         &mut own,
         PAGE_SIZE,
     );
-    link_given(at, taken, step, to, &own, tickets)
+    link_given(at, taken, given, work, to, &own, tickets)
 }
 
 // A refusal in the middle.
 fn refused_leaf(at: RowAt, taken: Taking) -> RowAt
     ensures { result ≡ refused_by at taken.number }
 {
-    let mut after = at;
-    after.number = taken.number;
-    after
+    RowAt {
+        number: taken.number,
+        ..at
+    }
 }
 
 // Loads a leaf: its changes up to change `to` are taken, and what is pending then is digested.
@@ -263,24 +277,20 @@ pub fn load_leaf(
     requires { LoadThere at leaf list.old store.old pages.now changes.now to values.now area.old tickets.old }
     ensures { LeafLoaded at leaf list.old store.old pages.now changes.now to values.now area.old tickets.old result list.new store.new area.new tickets.new }
 {
-    let from = leaf.from;
-    let end = leaf.to;
     let change = at.change;
     let value = at.value;
-    let begun = begin_leaf(at, leaf, &pages[from..end], list.len(), store.len());
+    let node = base_of(leaf, pages);
+    let begun = begin_leaf(at, leaf, node, list.len(), store.len());
     let taken = take_changes(
         begun,
         list,
         store,
-        &pages[from..end],
+        node,
         &changes[change..to],
         &values[value..],
     );
     if 0 < taken.number {
-        let after = refused_leaf(at, taken);
-        after
-    } else {
-        let after = digest_leaf(at, taken, list, store, &pages[from..end], to, area, tickets);
-        after
+        return refused_leaf(at, taken);
     }
+    digest_leaf(at, taken, list, store, node, to, area, tickets)
 }

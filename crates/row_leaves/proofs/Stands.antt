@@ -32,7 +32,7 @@ use Rattle.leaf_work.specs.Pending.{pending_of}
 use Rattle.leaf_work.specs.Digest as digest
 use Rattle.leaf_work.proofs.Tests.{key_is_there}
 use Rattle.leaf_builder.proofs.Putting.{put_parts}
-use Rattle.leaf_step.proofs.Closed.{a_page_has_4096_bytes}
+use Rattle.leaf_open.proofs.Openings.{a_page_has_4096_bytes}
 use Rattle.row_turns.specs.Row as rows
 use Rattle.row_turns.specs.Row.{RowLeaf, cutoff_by, IsRow, FromZero, first_leaf, no_leaf, Among, is_from_zero, pages_of}
 use Rattle.row_turns.specs.Changes.{Edit, EditsRight, changed_all, taken, behind, inserted_body, row_pages_asked}
@@ -54,8 +54,7 @@ use Rattle.row_leaf.specs.declared.LeafAt.{LeafAt}
 use Rattle.row_leaf.specs.declared.RowAt.{RowAt}
 use Rattle.row_leaf.specs.Leaf.{next_separator, leaf_at, cutoff_in, page_in, count_below, is_loaded, CopyThere, copied_by}
 use Rattle.row_leaf.specs.Load.{LeavesGiven, kept_by, begins_at, changes_in, edits_in, pending_in, LoadThere, LeafLoaded}
-use Rattle.row_leaves.specs.Turns.{to_by, TurnThere, CopiedOnly, LeafTurned, nothing_at, until_refused, RowThere, RowWritten, RowTurned}
-use Rattle.row_leaves.proofs.Loop.{no_further}
+use Rattle.row_leaves.specs.Turns.{to_by, TurnThere, CopiedOnly, LeafTurned, nothing_at, RowThere, RowWritten, RowTurned}
 use Rattle.row_leaves.proofs.Parts.{the_leaf, the_cutoff, row_behind, row_head, one_of, no_more_than_there_are, the_edits_taken, the_edits_behind, some_are_taken, values_in_two}
 
 abbrev q : PageSize 4096
@@ -258,9 +257,7 @@ module _ (list₀ : List Entry) (store₀ pages : List ℕ) (separators changes 
     pub edits_right : EditsRight 4096 (left at)
     pub above : (s : List ℕ) → cutoff_by (drop i row) ≡ some s → All (λ e. Le s e.key) (left at)
 
-  pub record Stands (at : RowAt) (end : ℕ) (list : List Entry) (store area tickets : List ℕ) (i : ℕ) : Type 0 where
-    pub end_is : end ≡ until_refused at (length separators)
-    pub end_within : end ≤ length separators
+  pub record Stands (at : RowAt) (list : List Entry) (store area tickets : List ℕ) (i : ℕ) : Type 0 where
     pub in_row : i ≤ length separators
     pub list_long : length list ≡ n
     pub store_long : length store ≡ m
@@ -271,10 +268,8 @@ module _ (list₀ : List Entry) (store₀ pages : List ℕ) (separators changes 
     pub ends : turns 4096 n m t (drop i row) (left at) ≡ turns 4096 n m (nothing_yet 4096 n m) row edits
     pub on : t.number ≡ 0 → On t at list store area tickets i
 
-  pub nothing_stands : (at : RowAt) → at ≡ nothing_at → (end : ℕ) → end ≡ until_refused at (length separators) → Stands at end list₀ store₀ area₀ tickets₀ 0
-  nothing_stands at e end f = rw e (record {
-    end_is = f ∙ ap (λ (a : RowAt). until_refused a (length separators)) e;
-    end_within = omega (arith, f, no_further at (length separators));
+  pub nothing_stands : (at : RowAt) → at ≡ nothing_at → Stands at list₀ store₀ area₀ tickets₀ 0
+  nothing_stands at e = rw e (record {
     in_row = omega arith;
     list_long = refl;
     store_long = refl;
@@ -305,34 +300,14 @@ module _ (list₀ : List Entry) (store₀ pages : List ℕ) (separators changes 
       from_zero no_leaf s y = none_is_not_some y
       from_zero (first_leaf z) s y = rw (← some-injective _ s y, z) (above_zeros right.keyed)
 
-  -- all leaves are ahead
-  pub all_are_ahead : (at : RowAt) → at ≡ nothing_at → (end : ℕ) → end ≡ until_refused at (length separators) → length separators ≤ end
-  unfolding until_refused
-  all_are_ahead at e end f = let z : at.number ≡ 0 = ap (λ (y : RowAt). y.number) e in let g : until_refused at (length separators) ≡ length separators = rw (eq-eqb at.number 0 z) in omega (arith, f, g)
-
   -- ---- leaf i
 
-  module _ (at : RowAt) (end : ℕ) (list : List Entry) (store area tickets : List ℕ) (i : ℕ) (k : Stands at end list store area tickets i) (less : i < end) where
-    going : at.number ≡ 0
-    unfolding until_refused
-    going = go (eqb at.number 0) refl
-      where
-        go : (b : Bool) → eqb at.number 0 ≡ b → at.number ≡ 0
-        go true e = eqb-true at.number 0 e
-        go false e = let z : end ≡ 0 = k.end_is ∙ rw e in absurd (omega (arith, less, z))
-
+  module _ (at : RowAt) (list : List Entry) (store area tickets : List ℕ) (i : ℕ) (k : Stands at list store area tickets i) (there_is : i < length separators) (going : at.number ≡ 0) where
     accepted : k.t.number ≡ 0
     accepted = sym k.number_is ∙ going
 
     o : On k.t at list store area tickets i
     o = k.on accepted
-
-    all_there : end ≡ length separators
-    unfolding until_refused
-    all_there = k.end_is ∙ rw (eq-eqb at.number 0 going)
-
-    there_is : i < length separators
-    there_is = omega (arith, less, k.end_within)
 
     abbrev t : Turned
     t = k.t
@@ -737,10 +712,8 @@ module _ (list₀ : List Entry) (store₀ pages : List ℕ) (separators changes 
           go true b = record { number_is = loaded_number b; on = loaded_on b; left_after = λ z. left_is r (change_is b z) (value_is b z) }
           go false b = record { number_is = copied_number b; on = copied_on b; left_after = λ z. left_is r (copied_change b) (copied_value b) }
 
-      pub one_leaf_more : (end' : ℕ) → end' ≡ until_refused r end → Stands r end' list' store' area' tickets' (i + 1)
-      one_leaf_more end' e = record {
-        end_is = e ∙ ap (until_refused r) all_there;
-        end_within = omega (arith, e, no_further r end, k.end_within);
+      pub one_leaf_more : Stands r list' store' area' tickets' (i + 1)
+      one_leaf_more = record {
         in_row = omega (arith, there_is);
         list_long = g.list_long ∙ k.list_long;
         store_long = g.store_long ∙ k.store_long;
@@ -754,11 +727,10 @@ module _ (list₀ : List Entry) (store₀ pages : List ℕ) (separators changes 
 
   -- ---- the last leaf was taken
 
-  module _ (at : RowAt) (end : ℕ) (list : List Entry) (store area tickets : List ℕ) (i : ℕ) (k : Stands at end list store area tickets i) (past : end ≤ i) where
+  module _ (at : RowAt) (list : List Entry) (store area tickets : List ℕ) (i : ℕ) (k : Stands at list store area tickets i) (past : at.number ≡ 0 → length separators ≤ i) where
     module _ (z : at.number ≡ 0) where
       at_the_end : i ≡ length separators
-      unfolding until_refused
-      at_the_end = let e : end ≡ length separators = k.end_is ∙ rw (eq-eqb at.number 0 z) in omega (arith, e, past, k.in_row)
+      at_the_end = omega (arith, past z, k.in_row)
 
       none_left : drop i row ≡ []
       none_left = ap (λ (j : ℕ). drop j row) (at_the_end ∙ sym (row_length 4096 pages separators)) ∙ drop-length row

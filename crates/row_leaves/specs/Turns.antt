@@ -1,5 +1,5 @@
 -- Document 02, M-101: the turns of a row, leaf after leaf, by the definitions of `row_turns`.
-use Rattle.std.specs.Prelude.{◌≡◌, true, false, cond, List, ℕ, ◌≤◌, eqb, length, replicate}
+use Rattle.std.specs.Prelude.{◌≡◌, true, false, List, ℕ, ◌≤◌, length, replicate}
 use Rattle.bit_ops.specs.Steps.{zeros}
 use Rattle.leaf_node.specs.Ticket.{packed_all}
 use Rattle.leaf_node.specs.Fits.{All}
@@ -49,9 +49,6 @@ pub record LeafTurned (at : RowAt) (i : ℕ) (list : List Entry) (store pages : 
 
 abbrev pub nothing_at : RowAt
 nothing_at = record { number = 0; leaves = 0; last = zero_key; change = 0; value = 0; waiting = false; work = fresh_work false false zero_key false zero_key }
-
-unfoldable pub until_refused : RowAt → ℕ → ℕ
-until_refused at end = cond (eqb at.number 0) end 0
 
 -- a row that passed, with list and store cleared; keys have 32 bytes, changes 40
 pub record RowThere (list : List Entry) (store pages : List ℕ) (separators changes : List (List ℕ)) (values area tickets : List ℕ) : Type 0 where

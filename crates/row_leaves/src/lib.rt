@@ -3,7 +3,7 @@
 #![tactic(auto)]
 
 ghost use Rattle.std.specs.Prelude.{◌≡◌};
-ghost use Rattle.row_leaves.specs.Turns.{nothing_at, until_refused, TurnThere, LeafTurned, RowThere, RowTurned};
+ghost use Rattle.row_leaves.specs.Turns.{nothing_at, TurnThere, LeafTurned, RowThere, RowTurned};
 
 use leaf_open::fresh_work;
 use leaf_work::Entry;
@@ -47,26 +47,15 @@ fn turn(
 pub fn begin_row() -> RowAt
     ensures { result ≡ nothing_at }
 {
-    let zeros = [0u8; 32];
     RowAt {
         number: 0,
         leaves: 0,
-        last: zeros,
+        last: [0; 32],
         change: 0,
         value: 0,
         waiting: false,
-        work: fresh_work(false, false, &zeros, false, &zeros),
+        work: fresh_work(false, None, None),
     }
-}
-
-// How far the loop over the leaves goes: up to `end`, or nowhere once one was refused.
-fn until_refused(at: RowAt, end: usize) -> usize
-    ensures { result ≡ until_refused at end }
-{
-    if at.number == 0 {
-        return end;
-    }
-    0
 }
 
 // All leaves of a row.
@@ -83,17 +72,14 @@ pub fn all_turns(
     requires { RowThere list.old store.old pages.now separators.now changes.now values.now area.old tickets.old }
     ensures { RowTurned list.old store.old pages.now separators.now changes.now values.now area.old tickets.old result list.new store.new area.new tickets.new }
 {
-    let begun = begin_row();
-    let all = until_refused(begun, separators.len());
-    let mut at = begun;
-    let mut end = all;
-    let mut i = 0;
-    while i < end {
+    let mut at = begin_row();
+    for i in 0..separators.len() {
+        if at.number != 0 {
+            return at;
+        }
         at = turn(
             at, i, list, store, pages, separators, changes, values, area, tickets,
         );
-        end = until_refused(at, end);
-        i += 1;
     }
     at
 }

@@ -2,27 +2,19 @@
 use mathlib.Core.Path.{◌≡◌, refl, sym, ap, ◌∙◌}
 use mathlib.Core.Bool.{Bool, true, false}
 use mathlib.Core.Option.{none, some}
-use mathlib.Core.List.{List, [], ◌∷◌, map}
+use mathlib.Core.List.{List, [], ◌∷◌}
 use Prim.Native.Nat.{ℕ, zero, suc, ◌+◌, ◌-◌, ◌*◌, ◌≤◌, ◌<◌}
 use native.Mathlib.Omega.{arith}
 use lib.Dec.{eqb}
-use lib.ListN.{length, replicate, get_or, take, drop, length-take, length-drop}
-use lib.Seq.{drop-drop, length-take-le}
+use lib.ListN.{length, get_or, take, drop}
+use lib.Seq.{drop-drop}
 use borrow.Author.Tests.{eq-eqb, ne_eqb}
 use Rattle.leaf_node.specs.Build.{put}
-use Rattle.leaf_node.specs.Ticket.{Ticket, packed_with, length_read, read_tickets}
-use Rattle.leaf_node.proofs.Copying.{put_all}
+use Rattle.leaf_node.specs.Ticket.{packed_with, length_read}
 use Rattle.leaf_model.specs.Work.{zero_key}
-use Rattle.leaf_work.specs.Tests.{key_if}
 use Rattle.row_tickets.specs.Linked.{separator_at, linked, linked_all, last_linked, separators_read}
 
 -- ---- the parts of a ticket
-
-pub a_key_is_copied : (bytes : List ℕ) (at : ℕ) → at + 32 ≤ length bytes → (copy : List ℕ) → copy ≡ put (replicate 32 0) 0 (take (at + 32 - at) (drop at bytes)) → copy ≡ take 32 (drop at bytes)
-a_key_is_copied bytes at h copy q =
-    let n : at + 32 - at ≡ 32 = omega arith in
-    let e : take (at + 32 - at) (drop at bytes) ≡ take 32 (drop at bytes) = ap (λ (m : ℕ). take m (drop at bytes)) n in
-    q ∙ ap (put (replicate 32 0) 0) e ∙ put_all (replicate 32 0) (take 32 (drop at bytes)) (length-take-le 32 (drop at bytes) (omega (arith, h, length-drop at bytes)))
 
 get_behind : (bytes : List ℕ) (at : ℕ) → get_or bytes at 0 ≡ get_or (drop at bytes) 0 0
 get_behind [] zero = refl
@@ -47,14 +39,14 @@ tickets_are_short bytes = go (eqb (get_or bytes 0 0) 1)
 -- ---- one leaf
 
 module _ (n : ℕ) (last s d : List ℕ) where
-  pub the_first_leaf_has_zeros : n ≡ 0 → (d' : List ℕ) → d' ≡ put d 0 (packed_with zero_key (key_if false zero_key)) → d' ≡ linked n last s d
+  pub the_first_leaf_has_zeros : n ≡ 0 → (d' : List ℕ) → d' ≡ put d 0 (packed_with zero_key none) → d' ≡ linked n last s d
   the_first_leaf_has_zeros z d' e = e ∙ rw (linked, eq-eqb n 0 z)
 
   pub its_separator_is_zeros : n ≡ 0 → zero_key ≡ separator_at n s
   its_separator_is_zeros z = rw (separator_at, eq-eqb n 0 z)
 
   module _ (z : n ≡ 0 → ⊥) where
-    pub another_leaf_is_linked : (e : List ℕ) → e ≡ put d (65 * n - 65) (packed_with last (key_if true s)) → (d' : List ℕ) → d' ≡ put e (65 * n) (packed_with s (key_if false s)) → d' ≡ linked n last s d
+    pub another_leaf_is_linked : (e : List ℕ) → e ≡ put d (65 * n - 65) (packed_with last (some s)) → (d' : List ℕ) → d' ≡ put e (65 * n) (packed_with s none) → d' ≡ linked n last s d
     another_leaf_is_linked e p d' q = q ∙ ap (λ (x : List ℕ). put x (65 * n) (packed_with s none)) p ∙ rw (linked, ne_eqb n 0 z)
 
     pub its_separator_stays : s ≡ separator_at n s

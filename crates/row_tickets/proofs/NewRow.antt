@@ -1,22 +1,22 @@
 -- Linking the leaves of the new row writes its tickets, "later bytes" as they were. Assumes nothing.
 use mathlib.Core.Path.{◌≡◌, refl, sym, ap, ◌∙◌}
-use mathlib.Core.Bool.{true, false}
+use mathlib.Core.Bool.{false}
 use mathlib.Core.Option.{none, some}
 use mathlib.Core.List.{List, [], ◌∷◌, ◌++◌, map, append-nil, append_assoc}
-use Prim.Native.Nat.{ℕ, zero, suc, ◌+◌, ◌-◌, ◌*◌, ◌≤◌}
+use Prim.Native.Nat.{ℕ, suc, ◌+◌, ◌-◌, ◌*◌, ◌≤◌}
 use native.Mathlib.Omega.{arith}
 use lib.Dec.{eqb}
-use lib.ListN.{length, take, drop, length-append, length-drop}
+use lib.ListN.{length, drop, length-append, length-drop}
 use lib.Seq.{drop-drop, take_at, drop_at}
 use borrow.Author.Tests.{ne_eqb}
 use Rattle.leaf_node.specs.Build.{put}
 use Rattle.leaf_node.specs.Ticket.{packed_with, packed_all}
-use Rattle.leaf_node.specs.Fits.{All, nil, cons}
+use Rattle.leaf_node.specs.Fits.{nil, cons}
 use Rattle.leaf_model.specs.Work.{zero_key}
 use Rattle.leaf_model.proofs.Lists.{all_append}
 use Rattle.leaf_work.specs.Digest.{overwrite}
 use Rattle.leaf_builder.proofs.Putting.{put_put, put_parts}
-use Rattle.row_turns.specs.Row.{RowLeaf, cutoff_by, is_from_zero, row_tickets}
+use Rattle.row_turns.specs.Row.{RowLeaf, is_from_zero, row_tickets}
 use Rattle.row_turns.proofs.Separators.{Separated}
 use Rattle.row_tickets.specs.Linked.{separator_at, linked, linked_all, last_linked}
 

@@ -6,28 +6,15 @@ ghost use Rattle.std.specs.Prelude.{◌≡◌, map, ◌+◌, ◌*◌, ◌≤◌,
 ghost use Rattle.leaf_node.specs.Ticket.{length_read};
 ghost use Rattle.row_tickets.specs.Linked.{linked, separator_at, linked_all, last_linked, separators_read};
 
-use leaf_node::copy_in;
+use bit_ops::bytes_from;
 use leaf_write::put_ticket;
-
-// 32 bytes from `at` on.
-fn key_from(bytes: &[u8], at: usize) -> [u8; 32]
-    requires { at + 32 ≤ length bytes.now }
-    ensures { result ≡ take 32 (drop at bytes.now) }
-{
-    let mut key = [0u8; 32];
-    copy_in(&bytes[at..at + 32], &mut key, 0);
-    key
-}
 
 // How long the ticket at byte `at` is.
 fn ticket_len(bytes: &[u8], at: usize) -> usize
     requires { at + 32 ≤ length bytes.now }
     ensures { (result ≡ length_read (drop at bytes.now)) × (result ≤ 65) }
 {
-    if bytes[at] == 1 {
-        return 65;
-    }
-    33
+    if bytes[at] == 1 { 65 } else { 33 }
 }
 
 // Leaf n of the new row, behind one whose separator is `last`. Answers its separator: the first leaf's is zeros.
@@ -37,11 +24,11 @@ pub fn link(tickets: &mut [u8], n: usize, last: &[u8; 32], separator: &[u8; 32])
 {
     if n == 0 {
         let zeros = [0u8; 32];
-        put_ticket(tickets, 0, &zeros, false, &zeros);
+        put_ticket(tickets, 0, &zeros, None);
         return zeros;
     }
-    put_ticket(tickets, 65 * n - 65, last, true, separator);
-    put_ticket(tickets, 65 * n, separator, false, separator);
+    put_ticket(tickets, 65 * n - 65, last, Some(separator));
+    put_ticket(tickets, 65 * n, separator, None);
     *separator
 }
 
@@ -58,12 +45,10 @@ pub fn link_leaves(
 {
     let mut key = *last;
     let mut at = 0;
-    let mut i = 0;
-    while i < count {
-        let separator = key_from(own, at + 1);
-        key = link(tickets, n + i, &key, &separator);
+    for i in 0..count {
+        let separator = bytes_from(own, at + 1);
+        key = link(tickets, n + i, &key, separator);
         at += ticket_len(own, at);
-        i += 1;
     }
     key
 }

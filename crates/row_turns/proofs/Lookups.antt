@@ -1,4 +1,5 @@
 -- Lookup in records under changes, in a page, and in a row whose separators lie around its keys. Assumes nothing.
+use Rattle.std.specs.Prelude.{Result, Ok, Err}
 use mathlib.Core.Path.{◌≡◌, refl, sym, ap, ◌∙◌}
 use mathlib.Core.Logic.{⊎_elim}
 use mathlib.Core.Bool.{Bool, true, false}
@@ -16,8 +17,6 @@ use Rattle.leaf_node.specs.Good.{Good}
 use Rattle.leaf_node.specs.Search.{search_of}
 use Rattle.leaf_node.specs.Cell.{cell_at}
 use Rattle.leaf_node.specs.Fits.{All, nil, cons}
-use Rattle.leaf_node.specs.declared.Place.{Place}
-use Rattle.leaf_node.specs.declared.Place.TheVariants.{Found, Absent}
 use Rattle.leaf_node.proofs.Verdicts.{accepted_pages_are_the_good_ones}
 use Rattle.leaf_node.proofs.Searches.{rise_on, found_is, records_before_an_absent_key_are_below_it, records_behind_an_absent_key_are_above_it}
 use Rattle.leaf_read.specs.Reply.{get_of, get_reply}
@@ -129,11 +128,11 @@ pub a_good_page_is_looked_up_by_its_records : (size : ℕ) → PageSize size →
 unfolding get_reply records records_between cell_at record_at value_at
 a_good_page_is_looked_up_by_its_records size q p g k = rw ((accepted_pages_are_the_good_ones size p).1 g) (go (search_of p 0 k) refl)
   where
-    go : (s : Place) → search_of p 0 k ≡ s → answered p (get_of p s) ≡ lookup_in k (run (count p - 0) 0 (record_at p))
-    go (Found i) e =
+    go : (s : Result ℕ ℕ) → search_of p 0 k ≡ s → answered p (Ok (get_of p s)) ≡ lookup_in k (run (count p - 0) 0 (record_at p))
+    go (Ok i) e =
         let f = found_is p 0 k i e in
         sym (found_at k (record_at p) (count p - 0) 0 i (omega arith) (omega (arith, f.1)) (sym f.2) (λ j a b h. absurd (omega (arith, rise_on p g.keys j i b f.1, h, f.2))))
-    go (Absent i) e = sym (found_nowhere k (record_at p) (count p - 0) 0 (λ j a b h. elim (dec_lt j i) [
+    go (Err i) e = sym (found_nowhere k (record_at p) (count p - 0) 0 (λ j a b h. elim (dec_lt j i) [
       | yes y ↦ absurd (omega (arith, records_before_an_absent_key_are_below_it size p q g 0 k i e j a y, h))
       | no y ↦ absurd (omega (arith, records_behind_an_absent_key_are_above_it size p q g 0 k i e j (omega arith) (omega arith), h))
     ]))

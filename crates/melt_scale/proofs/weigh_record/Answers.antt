@@ -18,7 +18,7 @@ returns-then-not-names c =
     let cell = c.cell_at-cell in
     let key = c.key_at in
     let named = c.names in
-    another_tree_is_skipped c.args.page.now c.args.i c.args.tree.now c.args.at c.requires.2 cell.result.flag cell.ensures.4 c.if-cell.false key.result.now key.ensures.0 named.result named.ensures c.if-not-names.true-raw
+    another_tree_is_skipped c.args.page.now c.args.i c.args.tree.now c.args.at c.requires.2 cell.result.flag cell.ensures.4 c.if-cell.false key.result.now key.ensures named.result named.ensures c.if-not-names.true-raw
 
 pub overflow_add-to : goal.overflow_add-to
 overflow_add-to c = record { fits = search (its_end_is_a_place, rules) }
@@ -31,5 +31,5 @@ returns c =
     let cell = c.cell_at-cell in
     let key = c.key_at in
     let named = c.names in
-    the_trees_record_is_weighed c.args.page.now c.args.i c.args.tree.now c.args.at c.requires.2 cell.result.flag cell.ensures.4 c.if-cell.false key.result.now key.ensures.0 named.result named.ensures c.if-not-names.false-raw
+    the_trees_record_is_weighed c.args.page.now c.args.i c.args.tree.now c.args.at c.requires.2 cell.result.flag cell.ensures.4 c.if-cell.false key.result.now key.ensures named.result named.ensures c.if-not-names.false-raw
     cell.result.offset cell.result.len cell.ensures.1 cell.ensures.3 _ refl c.read.result c.read.ensures.0 c.weigh.result c.weigh.ensures.0 c.weigh.ensures.1

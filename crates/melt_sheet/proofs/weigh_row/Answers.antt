@@ -1,9 +1,7 @@
 -- `melt_sheet::weigh_row` meets its contract. The invariant: `s` is the scale after the first `i` leaves.
 -- Assumes nothing.
 use Rattle.std.proofs.Common.{rules}
-use Prim.Native.Nat.{◌-◌}
-use lib.ListN.{length}
-use Rattle.melt_sheet.proofs.Rows.{AfterLeaves, before_the_first_leaf, a_leaf_lies_in_the_pages, a_leafs_start_is_a_place, a_leafs_end_is_a_place, a_leaf_is_laid, room_for_a_leaf, one_leaf_more, all_leaves}
+use Rattle.melt_sheet.proofs.Rows.{before_the_first_leaf, a_leaf_lies_in_the_pages, a_leafs_start_is_a_place, a_leafs_end_is_a_place, a_leaf_is_laid, room_for_a_leaf, one_leaf_more, all_leaves}
 use Rattle.melt_sheet.proofs.weigh_row.Goals as goal
 
 pub loop-i-init : goal.loop-i-init

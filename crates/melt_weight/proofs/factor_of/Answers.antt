@@ -1,6 +1,5 @@
 -- `melt_weight::factor_of` meets its contract.
 -- Assumes nothing.
-use Rattle.std.proofs.Common.{rules}
 use Rattle.std.proofs.Common.{◌*◌, ◌%◌, ◌^◌, Bool, not, T, sym, ◌∙◌, subst, le_trans, arith, le-ltb, le-leb}
 use native.Mathlib.Nat.{mod-le}
 use Rattle.std.proofs.lemmas.Bool.{lt-leb}

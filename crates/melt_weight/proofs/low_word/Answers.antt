@@ -1,8 +1,9 @@
 -- `melt_weight::low_word` meets its contract.
 -- Assumes nothing.
-use Rattle.melt_weight.proofs.Reading.{two_halves}
 use Rattle.std.proofs.Common.{rules}
+use Rattle.melt_weight.specs.Weight.{low}
 use Rattle.melt_weight.proofs.low_word.Goals as goal
 
 pub returns : goal.returns
-returns c = search (two_halves, rules)
+unfolding low
+returns c = search rules

@@ -1,6 +1,5 @@
 -- `melt_weight::melt` meets its contract.
 -- Assumes nothing.
-use Rattle.std.proofs.Common.{rules}
 use Rattle.std.proofs.Common.{◌^◌, false, pos, refl, le_trans, arith, lit≤, le→leb}
 use lib.Ieee.{in_float, binary64, mul, of_int, fin}
 use lib.Ieee.Positive.{between}

@@ -1,6 +1,5 @@
 -- `melt_weight::whole_above` meets its contract.
 -- Assumes nothing.
-use Rattle.std.proofs.Common.{rules}
 use Rattle.std.proofs.Common.{ℕ, ◌+◌, ◌^◌, ap, ◌∙◌, le_trans, le_of_eq, arith, lit≤, le→leb}
 use lib.Ieee.{in_float}
 use Rattle.melt_weight.proofs.Whole.{can_be_truncated, whole_few, stays, rises}

@@ -1,9 +1,5 @@
 use Rattle.overflow.proofs.Numbers.{Lowered}
-use Prim.Native.Nat.{◌-◌}
 use Rattle.overflow.proofs.put_low.Given as goal
 
 abbrev pub invariant-loop-j : goal.invariant-loop-j
 invariant-loop-j l = Lowered l.at l.count l.n l.initial.out l.out l.j l.left
-
-abbrev pub decreases-loop-j : goal.decreases-loop-j
-decreases-loop-j l = l.count - l.j

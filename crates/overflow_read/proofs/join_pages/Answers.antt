@@ -1,5 +1,4 @@
 use Rattle.std.proofs.Common.{rules}
-use Rattle.leaf_builder.proofs.Writing.{closer}
 use Rattle.overflow_read.proofs.Joining.{no_page_is_joined, all_pages_are_joined, the_bytes_lie_in_the_area, the_bytes_have_room, one_more_page_is_joined}
 use Rattle.overflow_read.proofs.join_pages.Goals as goal
 
@@ -18,10 +17,6 @@ slice_bounds-copy_in-end c = search (the_bytes_lie_in_the_area, rules)
 -- src/lib.rt:118:9
 pub copy_in-requires : goal.copy_in-requires
 copy_in-requires c = search (the_bytes_have_room, rules)
-
--- src/lib.rt:114:5
-pub loop-i-smaller : goal.loop-i-smaller
-loop-i-smaller c = search (closer, rules)
 
 -- src/lib.rt:114:5
 pub loop-i-preserved : goal.loop-i-preserved

@@ -1,6 +1,5 @@
 use Rattle.std.proofs.Common.{rules}
 use Rattle.overflow_read.proofs.Checking.{counts_fit, a_page_is_whole, no_page_is_passed, all_pages_are_passed, a_page_is_wrong, one_more_page_is_passed}
-use Rattle.leaf_builder.proofs.Writing.{closer}
 use Rattle.overflow_read.proofs.pages_right.Goals as goal
 
 -- src/lib.rt:71:5
@@ -14,10 +13,6 @@ page_right-requires c = (search (a_page_is_whole, rules), search (counts_fit, ru
 -- src/lib.rt:75:13
 pub returns-then-not-page_right : goal.returns-then-not-page_right
 returns-then-not-page_right c = search (a_page_is_wrong, rules)
-
--- src/lib.rt:71:5
-pub loop-i-smaller : goal.loop-i-smaller
-loop-i-smaller c = search (closer, rules)
 
 -- src/lib.rt:71:5
 pub loop-i-preserved : goal.loop-i-preserved

@@ -3,7 +3,4 @@ use Prim.Native.Nat.{◌-◌}
 use Rattle.overflow_read.proofs.pages_right.Given as goal
 
 abbrev pub invariant-loop-i : goal.invariant-loop-i
-invariant-loop-i l = Passed l.pages l.t (l.t - 15) l.size l.numbers l.bytes l.i
-
-abbrev pub decreases-loop-i : goal.decreases-loop-i
-decreases-loop-i l = l.t - l.i
+invariant-loop-i l = Passed l.pages l.i-end (l.i-end - 15) l.size l.numbers l.bytes l.i

@@ -4,8 +4,8 @@ use Rattle.std.proofs.Common.{rules}
 use Rattle.row_check.proofs.Calls.{the_limit_of_a_value, a_wrong_room_has_number_7, missing_values_have_number_10, long_values_have_number_12, falling_keys_have_number_13, a_short_area_has_number_17, a_long_row_has_number_18, a_right_row_is_accepted}
 use Rattle.row_check.proofs.call_verdict.Goals as goal
 
-pub returns-then-not-room_fits : goal.returns-then-not-room_fits
-returns-then-not-room_fits c = search (a_wrong_room_has_number_7, rules)
+pub returns-then-not-room_right : goal.returns-then-not-room_right
+returns-then-not-room_right c = search (a_wrong_room_has_number_7, rules)
 
 pub returns-then-not-values_there : goal.returns-then-not-values_there
 returns-then-not-values_there c = search (missing_values_have_number_10, rules)

@@ -1,9 +1,7 @@
 -- `row_check::leaves_verdict` meets its contract.
 -- Assumes nothing.
 use Rattle.std.proofs.Common.{rules}
-use Prim.Native.Nat.{◌-◌}
-use lib.ListN.{length}
-use Rattle.row_check.proofs.Leaves.{a_whole_row_has_its_leaves, Lowest, no_leaf_yet, one_leaf_more, all_leaves}
+use Rattle.row_check.proofs.Leaves.{a_whole_row_has_its_leaves, no_leaf_yet, one_leaf_more, all_leaves}
 use Rattle.row_check.proofs.leaves_verdict.Goals as goal
 
 pub loop-i-init : goal.loop-i-init

@@ -1,12 +1,7 @@
 -- `row_leaf::changes_end` meets its contract.
 -- Assumes nothing.
-use Prim.Native.Nat.{◌-◌}
-use lib.ListN.{length}
 use Rattle.row_leaf.proofs.Leaves.{CountedTo}
 use Rattle.row_leaf.proofs.changes_end.Given as goal
 
 abbrev pub invariant-loop-i : goal.invariant-loop-i
 invariant-loop-i l = CountedTo l.changes l.from l.cutoff l.i
-
-abbrev pub decreases-loop-i : goal.decreases-loop-i
-decreases-loop-i l = length l.changes - l.i

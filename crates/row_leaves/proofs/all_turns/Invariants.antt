@@ -1,12 +1,8 @@
 -- Where the turns stand before leaf `i`.
-use Rattle.std.proofs.Common.{◌-◌}
 use Rattle.row_leaves.specs.Turns.{RowThere}
 use Rattle.row_leaves.proofs.Stands.{Stands}
 use Rattle.row_leaves.proofs.all_turns.Given as goal
 
 abbrev pub invariant-loop-i : goal.invariant-loop-i
 invariant-loop-i l =
-    (req : RowThere l.initial.list l.initial.store l.pages l.separators l.changes l.values l.initial.area l.initial.tickets) × Stands l.initial.list l.initial.store l.pages l.separators l.changes l.values l.initial.area l.initial.tickets req l.at l.end l.list l.store l.area l.tickets l.i
-
-abbrev pub decreases-loop-i : goal.decreases-loop-i
-decreases-loop-i l = l.initial.end - l.i
+    (req : RowThere l.initial.list l.initial.store l.pages l.separators l.changes l.values l.initial.area l.initial.tickets) × Stands l.initial.list l.initial.store l.pages l.separators l.changes l.values l.initial.area l.initial.tickets req l.at l.list l.store l.area l.tickets l.i

@@ -1,8 +1,7 @@
 -- `row_tickets::link_leaves` meets its contract.
 -- Assumes nothing.
 use Rattle.std.proofs.Common.{rules}
-use Prim.Native.Nat.{◌-◌}
-use Rattle.row_tickets.proofs.Linking.{LinkedTo, none_is_linked_yet, one_more_is_linked, all_are_linked, the_last_is_known}
+use Rattle.row_tickets.proofs.Linking.{none_is_linked_yet, one_more_is_linked, all_are_linked, the_last_is_known}
 use Rattle.row_tickets.proofs.link_leaves.Goals as goal
 
 pub loop-i-init : goal.loop-i-init

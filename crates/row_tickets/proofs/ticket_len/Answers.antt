@@ -8,5 +8,5 @@ use Rattle.row_tickets.proofs.ticket_len.Goals as goal
 pub returns-then-bytes-at-eq1 : goal.returns-then-bytes-at-eq1
 returns-then-bytes-at-eq1 c = (search (a_ticket_with_a_cutoff_is_long, rules), search rules)
 
-pub returns : goal.returns
-returns c = (a_ticket_without_a_cutoff_is_short c.args.bytes.now c.args.at _ refl c.if-bytes-at-eq1.false, search rules)
+pub returns-else-bytes-at-eq1 : goal.returns-else-bytes-at-eq1
+returns-else-bytes-at-eq1 c = (a_ticket_without_a_cutoff_is_short c.args.bytes.now c.args.at _ refl c.if-bytes-at-eq1.false, search rules)
