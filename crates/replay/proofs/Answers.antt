@@ -1,11 +1,13 @@
 -- Answers of calls on a work against a record, part by part. Assumes nothing.
 use mathlib.Core.Path.{◌≡◌}
 use mathlib.Core.Bool.{Bool, ◌&&◌}
-use mathlib.Core.List.{List}
+use mathlib.Core.List.{List, ◌++◌}
 use Prim.Native.Nat.{ℕ, ◌*◌, ◌≤◌, ◌<◌}
 use lib.Dec.{eqb}
 use borrow.Author.Tests.{le-leb, lt-leb}
-use lib.ListN.{length, get_or, take, drop}
+use native.Mathlib.Omega.{arith}
+use lib.ListN.{length, get_or, take, drop, length-drop}
+use lib.Seq.{length-take-le}
 use Rattle.leaf_node.specs.Page.{word}
 use Rattle.leaf_node.specs.Build.{put}
 use Rattle.leaf_take.specs.declared.LeafReport.{LeafReport}
@@ -36,8 +38,11 @@ module _ (v page : List ℕ) where
   pub a_short_page_stays : 4205 ≤ length v → length page < 4096 → page ≡ page_lent v page
   a_short_page_stays h k = rw (le-leb 4205 (length v) h, lt-leb 4096 (length page) k)
 
-  pub the_page_is_lent : 4205 ≤ length v → 4096 ≤ length page → (p : List ℕ) → p ≡ put page 0 (take 4096 (drop 109 v)) → p ≡ page_lent v page
-  the_page_is_lent h k p e = rw (le-leb 4205 (length v) h, le-leb 4096 (length page) k) e
+  pub the_page_is_lent : 4205 ≤ length v → 4096 ≤ length page → (p : List ℕ) → p ≡ take 4096 (drop 109 v) → p ++ drop 4096 page ≡ page_lent v page
+  unfolding put
+  the_page_is_lent h k p e =
+      let n : length (take 4096 (drop 109 v)) ≡ 4096 = length-take-le 4096 (drop 109 v) (omega (arith, length-drop 109 v)) in
+      rw (le-leb 4205 (length v) h, le-leb 4096 (length page) k, e, n)
 
 -- the record of a leaf, its page and its ticket
 pub the_leaf_is_counted : (v area tickets : List ℕ) (leaf ticket n kind : ℕ) (a b : Bool) (before after : Score) → n ≡ word v 67 → kind ≡ get_or v 0 0 → a ≡ has_part v 109 area leaf 4096

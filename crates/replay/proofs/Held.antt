@@ -1,22 +1,27 @@
--- Bytes that still hold what a buffer was filled with: those from an index on decide. Assumes nothing.
-use mathlib.Core.Path.{◌≡◌}
-use mathlib.Core.Bool.{true, false}
-use mathlib.Core.List.{List}
-use Prim.Native.Nat.{ℕ, ◌+◌, ◌≤◌, ◌<◌}
-use lib.ListN.{length, get_or, drop}
-use borrow.Author.Tests.{eq-eqb, ne_eqb}
+-- Bytes that still hold what a buffer was filled with. Assumes nothing.
+use mathlib.Core.Path.{◌≡◌, refl, ap, ◌∙◌}
+use mathlib.Core.Bool.{Bool, true}
+use mathlib.Core.List.{List, [], ◌∷◌}
+use Prim.Native.Nat.{ℕ, ◌-◌, ◌<◌}
+use native.Mathlib.Omega.{arith}
+use lib.Dec.{eqb}
+use lib.ListN.{length, take, drop, length-drop, drop_of_length-le}
+use Rattle.std.specs.List.{list_all}
+use Rattle.std.proofs.lemmas.List.{take_all}
 use Rattle.leaf_work.specs.Tests.{every}
-use Rattle.leaf_work.proofs.Everyone.{every_more, every_fails, every_passes}
 use Rattle.replay.specs.Parts.{is_held}
+use Rattle.replay.proofs.Parts.{stops_at_false}
 
-module _ (s : List ℕ) (from i : ℕ) (e : every is_held (drop from s) ≡ every is_held (drop i s)) where
-  pub one_more_is_held : i < length s → get_or s i 0 ≡ 0x5a → every is_held (drop from s) ≡ every is_held (drop (i + 1) s)
+pub all_is_every : (f : ℕ → Bool) (xs : List ℕ) → list_all f xs ≡ every f xs
+all_is_every f [] = refl
+all_is_every f (x ∷ xs) = stops_at_false (f x) (list_all f xs) (every f xs) (all_is_every f xs)
+
+module _ (s : List ℕ) (from : ℕ) where
+  pub all_are_held : (r : Bool) → r ≡ list_all (λ x. eqb x 0x5a) (take (length s - from) (drop from s)) → r ≡ every is_held (drop from s)
   unfolding is_held
-  one_more_is_held h q = every_more is_held 0 s from i e h (eq-eqb (get_or s i 0) 0x5a q)
+  all_are_held r e =
+      let whole : take (length s - from) (drop from s) ≡ drop from s = take_all (length s - from) (drop from s) (omega (arith, length-drop from s)) in
+      e ∙ all_is_every is_held (take (length s - from) (drop from s)) ∙ ap (every is_held) whole
 
-  pub one_is_not_held : i < length s → (get_or s i 0 ≡ 0x5a → ⊥) → false ≡ every is_held (drop from s)
-  unfolding is_held
-  one_is_not_held h q = every_fails is_held 0 s from i e h (ne_eqb (get_or s i 0) 0x5a q)
-
-  pub all_are_held : length s ≤ i → true ≡ every is_held (drop from s)
-  all_are_held h = every_passes is_held 0 s from i e h
+  pub none_is_left : length s < from → true ≡ every is_held (drop from s)
+  none_is_left h = rw (drop_of_length-le s {i = from} (omega arith))

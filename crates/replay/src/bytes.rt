@@ -1,7 +1,8 @@
 // Bytes of a record. Past its end they are zero, so that no length must be shown here.
-ghost use Rattle.std.specs.Prelude.{◌≡◌, ◌<◌, length, get_or, drop};
+ghost use Rattle.std.specs.Prelude.{◌≡◌, ◌<◌, ◌==◌, length, get_or, drop};
+ghost use Rattle.std.specs.List.{list_all};
 ghost use Rattle.leaf_node.specs.Page.{word};
-ghost use Rattle.leaf_work.specs.Tests.{every, same_bytes};
+ghost use Rattle.leaf_work.specs.Tests.{every};
 ghost use Rattle.replay.specs.Parts.{key_from, has_at, has_part, is_held};
 
 pub(crate) fn byte(s: &[u8], at: usize) -> u8
@@ -10,20 +11,13 @@ pub(crate) fn byte(s: &[u8], at: usize) -> u8
     if at < s.len() { s[at] } else { 0 }
 }
 
-fn wide(x: u8) -> usize
-    ensures upper_bound { result < 256 }
-    ensures value { result ≡ x }
-{
-    x as usize
-}
-
 // A number of two bytes, low byte first.
 pub(crate) fn number(s: &[u8], at: usize) -> usize
     ensures value { result ≡ word s.now at }
     ensures upper_bound { result < 65536 }
 {
     if at < s.len() {
-        wide(byte(s, at)) + 256 * wide(byte(s, at + 1))
+        usize::from(byte(s, at)) + 256 * usize::from(byte(s, at + 1))
     } else {
         0
     }
@@ -40,22 +34,8 @@ pub(crate) fn key(s: &[u8], at: usize) -> [u8; 32]
     if s.len() - 32 < at {
         return out;
     }
-    leaf_node::copy_in(&s[at..at + 32], &mut out, 0);
+    out.copy_from_slice(&s[at..at + 32]);
     out
-}
-
-fn equal(a: &[u8], b: &[u8]) -> bool
-    requires { length a.now ≡ length b.now }
-    ensures { result ≡ same_bytes a.now b.now }
-{
-    let mut i = 0;
-    while i < a.len() {
-        if a[i] != b[i] {
-            return false;
-        }
-        i += 1;
-    }
-    true
 }
 
 // Whether the record has these bytes from `at` on.
@@ -69,10 +49,10 @@ pub(crate) fn same(s: &[u8], at: usize, bytes: &[u8]) -> bool
     if s.len() - n < at {
         return false;
     }
-    equal(&s[at..at + n], bytes)
+    &s[at..at + n] == bytes
 }
 
-// The same for a key. Of an array behind a reference the checker knows the length.
+// The same for a key.
 pub(crate) fn same_key(s: &[u8], at: usize, key: &[u8; 32]) -> bool
     ensures { result ≡ has_at s.now at key.now }
 {
@@ -95,16 +75,18 @@ pub(crate) fn same_part(s: &[u8], at: usize, other: &[u8], from: usize, n: usize
 // What lent buffers hold before a call.
 pub(crate) const HELD: u8 = 0x5a;
 
+fn all_held(s: &[u8]) -> bool
+    ensures { result ≡ list_all (λ x. x == 0x5a) s.now }
+{
+    s.iter().all(|x| *x == HELD)
+}
+
 // Whether a buffer still holds that from `from` on.
 pub(crate) fn held(s: &[u8], from: usize) -> bool
     ensures { result ≡ every is_held (drop from s.now) }
 {
-    let mut i = from;
-    while i < s.len() {
-        if s[i] != HELD {
-            return false;
-        }
-        i += 1;
+    if s.len() < from {
+        return true;
     }
-    true
+    all_held(&s[from..])
 }

@@ -2,6 +2,7 @@
 use crate::bytes::{byte, key, number, same_key};
 use crate::reading::read_full;
 use crate::score::Score;
+use leaf_updater::{leaf_prefix_len, leaf_separate};
 use std::io;
 use std::io::Read;
 
@@ -10,8 +11,8 @@ fn passes(v: &[u8; 99]) -> bool {
     let a = key(v, 0);
     let b = key(v, 32);
     let mut out = [0u8; 32];
-    let reply = bit_ops::separate(&a, &b, &mut out);
-    let shared = bit_ops::prefix_len(&a, &b);
+    let reply = leaf_separate(&a, &b, &mut out);
+    let shared = leaf_prefix_len(&a, &b);
     let said = (reply == byte(v, 64)) & (shared == number(v, 65));
     said & same_key(v, 67, &out)
 }

@@ -15,31 +15,19 @@ use std::io;
 use std::io::Read;
 use std::rt::Files;
 
-// What the records of a file hold.
-#[derive(Clone, Copy)]
-enum Kind {
-    Keys,
-    Pages,
-    Builds,
-    Sequences,
-}
-
-fn next<R: Read>(kind: Kind, file: &mut R, t: Score) -> io::Result<Score> {
-    match kind {
-        Kind::Keys => keys::next(file, t),
-        Kind::Pages => pages::next(file, t),
-        Kind::Builds => pages::next_build(file, t),
-        Kind::Sequences => works::all(file, t),
-    }
-}
-
-// All records of a file. Nothing tells that a file ends, so the turns are counted.
-fn records<R: Read>(kind: Kind, file: &mut R) -> io::Result<Score> {
+// All records of a file, by what the next one makes of the score. Nothing tells that a file ends, so the turns are counted.
+fn records<R: Read, F: Fn(&mut R, Score) -> io::Result<Score> + Drop>(
+    next: F,
+    file: &mut R,
+) -> io::Result<Score>
+    requires { F.IsAlwaysCallable next }
+{
     let mut t = Score::new();
-    let mut turns = u64::MAX;
-    while turns > 0 && t.more {
-        t = next(kind, file, t)?;
-        turns -= 1;
+    for _ in 0..u64::MAX {
+        if !t.more {
+            break;
+        }
+        t = next(file, t)?;
     }
     Ok(t)
 }
@@ -51,36 +39,27 @@ fn unopened(rt: &impl Eprint, path: &str, error: io::Error) -> io::Result<Score>
 }
 
 // The score of a file.
-fn replay(rt: &(impl Files + Eprint), path: &str, kind: Kind) -> io::Result<Score> {
+fn replay<T: Files + Eprint, F: Fn(&mut T::File, Score) -> io::Result<Score> + Drop>(
+    rt: &T,
+    path: &str,
+    next: F,
+) -> io::Result<Score>
+    requires { F.IsAlwaysCallable next }
+{
     match File::open(rt, path) {
-        Ok(mut file) => records(kind, &mut file),
+        Ok(mut file) => records(next, &mut file),
         Err(error) => unopened(rt, path, error),
     }
 }
 
-fn say(rt: &impl Print, text: &[u8]) -> io::Result<()> {
-    rt.write_all(text)
-}
-
-fn say_number(rt: &impl Print, n: u64) -> io::Result<()> {
-    print!(rt; "{n}")
-}
-
-fn report(rt: &impl Print, name: &[u8], t: Score) -> io::Result<()> {
-    say(rt, name)?;
-    say_number(rt, t.passed)?;
-    say(rt, b" passed, ")?;
-    say_number(rt, t.failed)?;
-    say(rt, b" failed\n")
+fn report(rt: &impl Print, name: &str, t: Score) -> io::Result<()> {
+    let (passed, failed) = (t.passed, t.failed);
+    println!(rt; "{name:<10}{passed} passed, {failed} failed")
 }
 
 fn main(rt: HostRuntime) -> io::Result<()> {
-    report(&rt, b"separate  ", replay(&rt, "separate", Kind::Keys)?)?;
-    report(&rt, b"pages     ", replay(&rt, "pages", Kind::Pages)?)?;
-    report(&rt, b"builds    ", replay(&rt, "builds", Kind::Builds)?)?;
-    report(
-        &rt,
-        b"sequences ",
-        replay(&rt, "sequences", Kind::Sequences)?,
-    )
+    report(&rt, "separate", replay(&rt, "separate", keys::next)?)?;
+    report(&rt, "pages", replay(&rt, "pages", pages::next)?)?;
+    report(&rt, "builds", replay(&rt, "builds", pages::next_build)?)?;
+    report(&rt, "sequences", replay(&rt, "sequences", works::all)?)
 }

@@ -6,6 +6,10 @@ use crate::bytes::{byte, key, number, same, same_key};
 use crate::reading::read_full;
 use crate::score::Score;
 use leaf_page::LeafValue;
+use leaf_updater::{
+    leaf_page_check, leaf_page_get, leaf_page_key, leaf_page_rebuild, leaf_page_value,
+    leaf_page_values_size,
+};
 use std::io;
 use std::io::Read;
 
@@ -23,7 +27,7 @@ fn same_value(v: &[u8], q: usize, r: LeafValue) -> bool
 fn same_key_read(page: &[u8], v: &[u8], q: usize) -> bool
     requires { q ≤ 8000 }
 {
-    let r = leaf_page::key(page, number(v, q + 1));
+    let r = leaf_page_key(page, number(v, q + 1));
     let key = r.key;
     (r.refusal == byte(v, q + 37)) & same_key(v, q + 46, &key)
 }
@@ -31,7 +35,7 @@ fn same_key_read(page: &[u8], v: &[u8], q: usize) -> bool
 fn same_size(page: &[u8], v: &[u8], q: usize) -> bool
     requires { q ≤ 8000 }
 {
-    let r = leaf_page::values_size(page, number(v, q + 1), number(v, q + 3));
+    let r = leaf_page_values_size(page, number(v, q + 1), number(v, q + 3));
     (r.refusal == byte(v, q + 37)) & (r.bytes == number(v, q + 42))
 }
 
@@ -39,7 +43,7 @@ fn same_sought(page: &[u8], v: &[u8], q: usize) -> bool
     requires { q ≤ 8000 }
 {
     let sought = key(v, q + 5);
-    same_value(v, q, leaf_page::get(page, &sought))
+    same_value(v, q, leaf_page_get(page, &sought))
 }
 
 // Asks the question that stands at byte q.
@@ -48,18 +52,16 @@ fn passes(page: &[u8], v: &[u8], q: usize) -> bool
 {
     match byte(v, q) {
         0 => same_key_read(page, v, q),
-        1 => same_value(v, q, leaf_page::value(page, number(v, q + 1))),
+        1 => same_value(v, q, leaf_page_value(page, number(v, q + 1))),
         2 => same_size(page, v, q),
         _ => same_sought(page, v, q),
     }
 }
 
 fn ask_all(page: &[u8], v: &[u8], t: Score) -> Score {
-    let mut out = t.count(leaf_node::check(page) == byte(v, 4096));
-    let mut i = 0;
-    while i < QUESTIONS {
+    let mut out = t.count(leaf_page_check(page) == byte(v, 4096));
+    for i in 0..QUESTIONS {
         out = out.count(passes(page, v, 4097 + 78 * i));
-        i += 1;
     }
     out
 }
@@ -81,7 +83,7 @@ fn same_build(v: &[u8], page: &[u8]) -> bool {
     let mid = number(v, 4098);
     let to = number(v, 4100);
     let mut out = [0xeeu8; 4096];
-    let reply = leaf_builder::rebuild(page, from, mid, to, &mut out);
+    let reply = leaf_page_rebuild(page, from, mid, to, &mut out);
     (reply == 0) & same(v, 4102, &out)
 }
 

@@ -7,7 +7,7 @@ use std::io;
 use std::io::Read;
 
 // Reads until the buffer is full or the file ends, and returns how many bytes it put at the buffer's start. Where a read fails, the rest of
-// the file is not to be read.
+// the file is not to be read. The library's `read_exact` doesn't tell how many bytes there were before the file's end.
 pub(crate) fn read_full<R: Read>(file: &mut R, buf: &mut [u8]) -> io::Result<usize>
     ensures bound { ReadsAtMost result buf.new }
     ensures bytes { IfOk result (λ n. Consumes (R.remaining file.old) (R.remaining file.new) (take n buf.new)) }

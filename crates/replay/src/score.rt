@@ -1,7 +1,7 @@
 ghost use Rattle.std.specs.Prelude.{◌≡◌, true, false, not, eqb};
 ghost use Rattle.replay.specs.Counts.{one_more, count_if};
 
-// How many answers passed and failed, and whether the file may hold more.
+// How many answers passed and failed, and whether the file may hold more: a flag, since the score is wanted at the file's end too.
 #[derive(Clone, Copy)]
 pub struct Score {
     pub passed: u64,
@@ -12,7 +12,7 @@ pub struct Score {
 fn one_more(x: u64) -> u64
     ensures { result ≡ one_more x }
 {
-    if x < u64::MAX { x + 1 } else { x }
+    x.saturating_add(1)
 }
 
 impl Score {

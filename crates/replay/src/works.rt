@@ -7,9 +7,11 @@ ghost use Rattle.replay.specs.Counts.{Counted};
 use crate::bytes::{HELD, byte, held, key, number, same_key, same_part};
 use crate::reading::read_full;
 use crate::score::Score;
-use leaf_digest::{Digested, LeafGave, gave_out};
-use leaf_take::{LeafReport, change_of, report_out};
-use leaf_work::Work;
+use leaf_digest::LeafGave;
+use leaf_entries::blank_entry;
+use leaf_take::LeafReport;
+use leaf_updater::{leaf_digest, leaf_ingest, leaf_next_base, leaf_open, leaf_remove_cutoff};
+use leaf_work::{Entry, Work};
 use std::io;
 use std::io::Read;
 
@@ -86,7 +88,7 @@ impl Run {
         }
     }
 
-    // A record that is no call.
+    // An answer more.
     fn count(self, passed: bool) -> Self
         ensures counted { Counted passed self.score result.score }
         ensures work_value { result.work ≡ self.work }
@@ -94,16 +96,6 @@ impl Run {
         let mut run = self;
         run.score = run.score.count(passed);
         run
-    }
-
-    // A call that left this work record.
-    fn answered(self, work: Work, passed: bool) -> Self
-        ensures counted { Counted passed self.score result.score }
-        ensures work_value { result.work ≡ work }
-    {
-        let mut run = self;
-        run.work = work;
-        run.count(passed)
     }
 
     // The file's end, of which `left` bytes make no record.
@@ -127,33 +119,24 @@ fn lend(v: &[u8], run: Run, page: &mut [u8]) -> Run
     if page.len() < PAGE {
         return run.count(false);
     }
-    leaf_node::copy_in(&v[BODY..RECORD], page, 0);
+    page[..PAGE].copy_from_slice(&v[BODY..RECORD]);
     run.count(true)
 }
 
-fn open(
-    v: &[u8],
-    run: Run,
-    rows: &mut [[usize; 5]],
-    keys: &mut [[u8; 32]],
-    store: &mut [u8],
-    page: &[u8],
-) -> Run {
-    let separator = key(v, KEY);
-    let cutoff = key(v, CUTOFF);
-    let after = leaf_open::open(
-        false,
-        byte(v, FIRST) != 0,
-        page,
-        &separator,
-        byte(v, SECOND) != 0,
-        &cutoff,
-        run.work,
-        rows,
-        keys,
+fn open(v: &[u8], run: Run, list: &mut [Entry], store: &mut [u8], page: &[u8]) -> Run {
+    let mut run = run;
+    let refusal = leaf_open(
+        &mut run.work,
+        list,
         store,
+        0,
+        byte(v, FIRST),
+        page,
+        &key(v, KEY),
+        byte(v, SECOND),
+        &key(v, CUTOFF),
     );
-    run.answered(after.work, after.refusal == byte(v, REFUSAL))
+    run.count(refusal == byte(v, REFUSAL))
 }
 
 fn same_report(v: &[u8], reply: LeafReport) -> bool
@@ -163,44 +146,43 @@ fn same_report(v: &[u8], reply: LeafReport) -> bool
     said & ((reply.offset == number(v, NUMBER)) & (reply.len == number(v, SIZE)))
 }
 
-fn ingest(
-    v: &[u8],
-    run: Run,
-    rows: &mut [[usize; 5]],
-    keys: &mut [[u8; 32]],
-    store: &mut [u8],
-    page: &[u8],
-) -> Run {
-    let taken = key(v, KEY);
+fn ingest(v: &[u8], run: Run, list: &mut [Entry], store: &mut [u8], page: &[u8]) -> Run {
     let end = BODY + number(v, LENGTH);
     if v.len() < end {
         return run.count(false);
     }
-    let change = change_of(byte(v, FIRST), byte(v, SECOND));
-    let value = &v[BODY..end];
-    let after = leaf_ingest::ingest(run.work, rows, keys, store, page, &taken, change, value);
-    let reply = after.reply;
-    run.answered(after.work, same_report(v, report_out(reply)))
+    let mut run = run;
+    let reply = leaf_ingest(
+        &mut run.work,
+        list,
+        store,
+        page,
+        &key(v, KEY),
+        byte(v, FIRST),
+        byte(v, SECOND),
+        &v[BODY..end],
+    );
+    run.count(same_report(v, reply))
 }
 
-fn next_base(
-    v: &[u8],
-    run: Run,
-    rows: &[[usize; 5]],
-    keys: &[[u8; 32]],
-    store: &[u8],
-    page: &[u8],
-) -> Run {
-    let separator = key(v, KEY);
-    let cutoff = key(v, CUTOFF);
-    let cut = byte(v, SECOND) != 0;
-    let after = leaf_again::next_base(run.work, rows, keys, store, page, &separator, cut, &cutoff);
-    run.answered(after.work, after.refusal == byte(v, REFUSAL))
+fn next_base(v: &[u8], run: Run, list: &[Entry], store: &[u8], page: &[u8]) -> Run {
+    let mut run = run;
+    let refusal = leaf_next_base(
+        &mut run.work,
+        list,
+        store,
+        page,
+        &key(v, KEY),
+        byte(v, SECOND),
+        &key(v, CUTOFF),
+    );
+    run.count(refusal == byte(v, REFUSAL))
 }
 
-fn remove_cutoff(v: &[u8], run: Run, rows: &[[usize; 5]], keys: &[[u8; 32]], store: &[u8]) -> Run {
-    let after = leaf_again::remove_cutoff(run.work, rows, keys, store);
-    run.answered(after.work, after.refusal == byte(v, REFUSAL))
+fn remove_cutoff(v: &[u8], run: Run, list: &[Entry], store: &[u8]) -> Run {
+    let mut run = run;
+    let refusal = leaf_remove_cutoff(&mut run.work, list, store);
+    run.count(refusal == byte(v, REFUSAL))
 }
 
 // ---- a digest, and the leaves that it gave
@@ -277,10 +259,8 @@ fn leaves<R: Read>(
         ticket: 0,
         score: t,
     };
-    let mut i = 0;
-    while i < n {
+    for _ in 0..n {
         given = next_leaf(file, given, area, tickets)?;
-        i += 1;
     }
     Ok(given.score)
 }
@@ -290,21 +270,12 @@ fn digest_counted<R: Read>(
     file: &mut R,
     v: &[u8],
     t: Score,
-    after: Digested,
+    reply: LeafGave,
     area: &[u8],
     tickets: &[u8],
 ) -> io::Result<Score> {
-    let reply = after.reply;
-    let cutoff = after.cutoff;
-    let given = same_digest(v, gave_out(reply, cutoff));
-    let right = given & (lendable(v) & only_given(v, area, tickets));
+    let right = same_digest(v, reply) & (lendable(v) & only_given(v, area, tickets));
     leaves(file, number(v, NUMBER), t.count(right), area, tickets)
-}
-
-fn at_most(n: usize, most: usize) -> usize
-    ensures { result ≤ most }
-{
-    if n < most { n } else { most }
 }
 
 // Whether both buffers have as many bytes as the record says.
@@ -312,95 +283,40 @@ fn lendable(v: &[u8]) -> bool {
     (number(v, LENGTH) <= AREA) & (number(v, TICKETS) <= TICKET_BYTES)
 }
 
-// A digest that is lent the first bytes of both buffers.
-fn digest_within(
-    work: Work,
-    rows: &mut [[usize; 5]],
-    keys: &mut [[u8; 32]],
-    store: &mut [u8],
-    page: &[u8],
-    area: &mut [u8],
-    room: usize,
-    tickets: &mut [u8],
-    ticket_room: usize,
-) -> Digested
-    requires room_in_bounds { room ≤ length area.old }
-    requires ticket_room_in_bounds { ticket_room ≤ length tickets.old }
-{
-    let start = 0;
-    leaf_digest::digest(
-        work,
-        rows,
-        keys,
-        store,
-        page,
-        &mut area[start..room],
-        &mut tickets[start..ticket_room],
-    )
-}
-
-// A digest whose buffers hold the same in every byte before.
+// A digest whose buffers hold the same in every byte before, and that is lent the first bytes of both.
 fn digest<R: Read>(
     file: &mut R,
     v: &[u8],
     run: Run,
-    rows: &mut [[usize; 5]],
-    keys: &mut [[u8; 32]],
+    list: &mut [Entry],
     store: &mut [u8],
     page: &[u8],
 ) -> io::Result<Run> {
     let mut area = [HELD; AREA];
     let mut tickets = [HELD; TICKET_BYTES];
-    let after = digest_within(
-        run.work,
-        rows,
-        keys,
+    let mut run = run;
+    let reply = leaf_digest(
+        &mut run.work,
+        list,
         store,
         page,
-        &mut area,
-        at_most(number(v, LENGTH), AREA),
-        &mut tickets,
-        at_most(number(v, TICKETS), TICKET_BYTES),
+        &mut area[..number(v, LENGTH).min(AREA)],
+        &mut tickets[..number(v, TICKETS).min(TICKET_BYTES)],
     );
-    let work = after.work;
-    let score = digest_counted(file, v, run.score, after, &area, &tickets)?;
-    Ok(Run {
-        work: work,
-        score: score,
-    })
+    run.score = digest_counted(file, v, run.score, reply, &area, &tickets)?;
+    Ok(run)
 }
 
 // ---- the records
 
-// Calls that write nothing that is lent.
-fn turned(
-    v: &[u8],
-    run: Run,
-    rows: &[[usize; 5]],
-    keys: &[[u8; 32]],
-    store: &[u8],
-    page: &[u8],
-) -> Run {
-    match byte(v, 0) {
-        4 => next_base(v, run, rows, keys, store, page),
-        5 => remove_cutoff(v, run, rows, keys, store),
-        _ => run.count(false),
-    }
-}
-
 // All calls but the digest.
-fn called(
-    v: &[u8],
-    run: Run,
-    rows: &mut [[usize; 5]],
-    keys: &mut [[u8; 32]],
-    store: &mut [u8],
-    page: &[u8],
-) -> Run {
+fn called(v: &[u8], run: Run, list: &mut [Entry], store: &mut [u8], page: &[u8]) -> Run {
     match byte(v, 0) {
-        1 => open(v, run, rows, keys, store, page),
-        2 => ingest(v, run, rows, keys, store, page),
-        _ => turned(v, run, rows, keys, store, page),
+        1 => open(v, run, list, store, page),
+        2 => ingest(v, run, list, store, page),
+        4 => next_base(v, run, list, store, page),
+        5 => remove_cutoff(v, run, list, store),
+        _ => run.count(false),
     }
 }
 
@@ -409,15 +325,14 @@ fn replayed<R: Read>(
     file: &mut R,
     v: &[u8],
     run: Run,
-    rows: &mut [[usize; 5]],
-    keys: &mut [[u8; 32]],
+    list: &mut [Entry],
     store: &mut [u8],
     page: &mut [u8],
 ) -> io::Result<Run> {
     match byte(v, 0) {
         0 => Ok(lend(v, run, page)),
-        3 => digest(file, v, run, rows, keys, store, page),
-        _ => Ok(called(v, run, rows, keys, store, page)),
+        3 => digest(file, v, run, list, store, page),
+        _ => Ok(called(v, run, list, store, page)),
     }
 }
 
@@ -425,8 +340,7 @@ fn replayed<R: Read>(
 fn next<R: Read>(
     file: &mut R,
     run: Run,
-    rows: &mut [[usize; 5]],
-    keys: &mut [[u8; 32]],
+    list: &mut [Entry],
     store: &mut [u8],
     page: &mut [u8],
 ) -> io::Result<Run> {
@@ -435,20 +349,20 @@ fn next<R: Read>(
     if n != RECORD {
         return Ok(run.end(n));
     }
-    replayed(file, &record, run, rows, keys, store, page)
+    replayed(file, &record, run, list, store, page)
 }
 
 // All records of the file, since one goes on with what the one before it left. Nothing tells that a file ends, so the turns are counted.
 pub(crate) fn all<R: Read>(file: &mut R, t: Score) -> io::Result<Score> {
-    let mut rows = [[0usize; 5]; 121];
-    let mut keys = [[0u8; 32]; 121];
+    let mut list = [blank_entry(); 121];
     let mut store = [0u8; 9000];
     let mut page = [0u8; PAGE];
     let mut run = Run::new(t);
-    let mut turns = u64::MAX;
-    while turns > 0 && run.score.more {
-        run = next(file, run, &mut rows, &mut keys, &mut store, &mut page)?;
-        turns -= 1;
+    for _ in 0..u64::MAX {
+        if !run.score.more {
+            break;
+        }
+        run = next(file, run, &mut list, &mut store, &mut page)?;
     }
     Ok(run.score)
 }

@@ -2,11 +2,11 @@
 ghost use Rattle.std.specs.Prelude.{◌<◌};
 
 use crate::keys::key_of;
-use crate::line::{close, say, say_number, say_reply};
-use crate::works::opened;
-use leaf_digest::{LeafGave, gave_out};
-use leaf_ingest::Change;
-use leaf_work::Work;
+use crate::line::{close, say_reply};
+use crate::works::{new_list, no_work, open, page_of};
+use leaf_digest::LeafGave;
+use leaf_updater::{leaf_digest, leaf_ingest, leaf_page_values_size};
+use leaf_work::{Entry, Work};
 use std::io;
 
 // The key of value i: the first n start with 10, the others with 20.
@@ -26,57 +26,24 @@ fn value_at<'a>(i: u8, n: u8, value: &'a [u8], last: &'a [u8]) -> &'a [u8] {
 
 // As many new values as `count` says: `value` for the first n keys, `last` for the others.
 fn put_all<'a>(
-    work: Work,
-    rows: &mut [[usize; 5]],
-    keys: &mut [[u8; 32]],
+    work: &mut Work,
+    list: &mut [Entry],
     store: &mut [u8],
     page: &[u8],
     n: u8,
     value: &'a [u8],
     count: u8,
     last: &'a [u8],
-) -> Work {
-    let mut work = work;
-    let mut i: u8 = 0;
-    while i < count {
-        let key = key_at(i, n);
+) {
+    for i in 0..count {
         let new = value_at(i, n, value, last);
-        i += 1;
-        let after = leaf_ingest::ingest(
-            work,
-            rows,
-            keys,
-            store,
-            page,
-            &key,
-            Change::Put(false),
-            new,
-        );
-        work = after.work;
+        leaf_ingest(work, list, store, page, &key_at(i, n), 1, 0, new);
     }
-    work
 }
 
-// What a digest gives.
-fn given(
-    work: Work,
-    rows: &mut [[usize; 5]],
-    keys: &mut [[u8; 32]],
-    store: &mut [u8],
-    page: &[u8],
-    area: &mut [u8],
-) -> LeafGave {
-    let mut tickets = [0u8; 260];
-    let after = leaf_digest::digest(work, rows, keys, store, page, area, &mut tickets);
-    let reply = after.reply;
-    let cutoff = after.cutoff;
-    gave_out(reply, cutoff)
-}
-
-// An opening, with a base where `based` is set and a cutoff where `cut` is; so many values, and a digest.
+// An opening, with a cutoff where `cut` is set; so many values, and a digest.
 fn digested<'a>(
-    based: bool,
-    page: &[u8],
+    base: Option<&[u8]>,
     cut: bool,
     n: u8,
     value: &'a [u8],
@@ -84,18 +51,16 @@ fn digested<'a>(
     last: &'a [u8],
     area: &mut [u8],
 ) -> LeafGave {
-    let mut rows = [[0usize; 5]; 121];
-    let mut keys = [[0u8; 32]; 121];
+    let page = page_of(base);
+    let mut work = no_work();
+    let mut list = new_list();
     let mut store = [0u8; 9000];
-    let opening = opened(false, based, page, cut, &mut rows, &mut keys, &mut store).work;
-    let work = put_all(
-        opening, &mut rows, &mut keys, &mut store, page, n, value, count, last,
+    let mut tickets = [0u8; 260];
+    open(&mut work, 0, base, cut, &mut list, &mut store);
+    put_all(
+        &mut work, &mut list, &mut store, page, n, value, count, last,
     );
-    given(work, &mut rows, &mut keys, &mut store, page, area)
-}
-
-fn wide(x: usize) -> u64 {
-    x as u64
+    leaf_digest(&mut work, &mut list, &mut store, page, area, &mut tickets)
 }
 
 fn from_byte(x: u8) -> usize
@@ -117,7 +82,7 @@ fn count_of(page: &[u8]) -> usize
 // The body of a leaf, by its page.
 fn body(page: &[u8]) -> usize {
     let n = count_of(page);
-    let size = leaf_page::values_size(page, 0, n);
+    let size = leaf_page_values_size(page, 0, n);
     let bytes = size.bytes;
     if bytes < 4097 {
         return 34 * n + bytes;
@@ -125,34 +90,15 @@ fn body(page: &[u8]) -> usize {
     0
 }
 
-// Says the body of a leaf, where there is one; whether it is as stated, 0 for none.
-fn say_leaf(rt: &impl Print, page: &[u8], there: bool, stated: usize) -> io::Result<bool> {
-    if !there {
-        return Ok(stated == 0);
+// Says the leaves that a digest gave; whether they have these bodies.
+fn say_bodies(rt: &impl Print, leaves: usize, area: &[u8], stated: &[usize]) -> io::Result<bool> {
+    let mut right = leaves == stated.len();
+    for i in 0..leaves.min(area.len() / 4096) {
+        let b = body(&area[4096 * i..4096 * i + 4096]);
+        print!(rt; "leaf of {b}  ")?;
+        right &= stated.get(i).copied() == Some(b);
     }
-    let b = body(page);
-    say(rt, b"leaf of ")?;
-    say_number(rt, wide(b))?;
-    say(rt, b"  ")?;
-    Ok(b == stated)
-}
-
-// Says the leaves that a digest gave; whether they are at most three and have these bodies, 0 for none.
-fn say_bodies(
-    rt: &impl Print,
-    leaves: usize,
-    area: &[u8],
-    one: usize,
-    two: usize,
-    three: usize,
-) -> io::Result<bool> {
-    if area.len() < 12288 {
-        return Ok(false);
-    }
-    let first = say_leaf(rt, &area[0..4096], 0 < leaves, one)?;
-    let second = say_leaf(rt, &area[4096..8192], 1 < leaves, two)?;
-    let third = say_leaf(rt, &area[8192..12288], 2 < leaves, three)?;
-    Ok(first & (second & (third & (leaves < 4))))
+    Ok(right)
 }
 
 // Says what a digest gave; whether it gave leaves with these bodies, and asks for a merge where `waiting` is set.
@@ -160,14 +106,12 @@ fn say_leaves(
     rt: &impl Print,
     after: LeafGave,
     area: &[u8],
-    one: usize,
-    two: usize,
-    three: usize,
+    stated: &[usize],
     waiting: u8,
 ) -> io::Result<bool> {
-    let right = say_bodies(rt, after.leaves, area, one, two, three)?;
+    let right = say_bodies(rt, after.leaves, area, stated)?;
     if after.waiting != 0 {
-        say(rt, b"merge request")?;
+        print!(rt; "merge request")?;
     }
     Ok(right & ((after.refusal == 0) & (after.waiting == waiting)))
 }
@@ -175,125 +119,83 @@ fn say_leaves(
 // No base, and n values.
 fn values_trial(
     rt: &impl Print,
-    label: &[u8],
+    label: &str,
     n: u8,
     value: &[u8],
-    one: usize,
-    two: usize,
-    three: usize,
+    stated: &[usize],
 ) -> io::Result<()> {
-    say(rt, label)?;
+    print!(rt; "{label:<45}")?;
     let mut area = [0u8; 16384];
-    let after = digested(false, &[0u8; 1], false, n, value, n, value, &mut area);
-    let stated = say_leaves(rt, after, &area, one, two, three, 0)?;
-    close(rt, stated)
+    let after = digested(None, false, n, value, n, value, &mut area);
+    let right = say_leaves(rt, after, &area, stated, 0)?;
+    close(rt, right)
 }
 
 // An empty base with a cutoff, and two values.
 fn merge_trial<'a>(
     rt: &impl Print,
-    label: &[u8],
+    label: &str,
     value: &'a [u8],
     last: &'a [u8],
-    leaf: usize,
+    stated: &[usize],
     waiting: u8,
 ) -> io::Result<()> {
-    say(rt, label)?;
+    print!(rt; "{label:<45}")?;
     let mut area = [0u8; 16384];
-    let after = digested(true, &[0u8; 4096], true, 1, value, 2, last, &mut area);
-    let stated = say_leaves(rt, after, &area, leaf, 0, 0, waiting)?;
-    close(rt, stated)
+    let after = digested(Some(&[0u8; 4096]), true, 1, value, 2, last, &mut area);
+    let right = say_leaves(rt, after, &area, stated, waiting)?;
+    close(rt, right)
 }
 
 // Two inserts before a base.
 fn inserts_before(rt: &impl Print, page: &[u8]) -> io::Result<bool> {
     let value = [7u8; 1332];
     let mut area = [0u8; 16384];
-    let after = digested(true, page, false, 2, &value, 2, &value, &mut area);
-    say_leaves(rt, after, &area, 2732, 4092, 0, 0)
+    let after = digested(Some(page), false, 2, &value, 2, &value, &mut area);
+    say_leaves(rt, after, &area, &[2732, 4092], 0)
 }
 
 // The page of three values of 1,330, whose keys come last, is the base of two inserts before them.
 fn inserts_before_a_base(rt: &impl Print) -> io::Result<()> {
-    say(rt, b"* two of 1,332 before a base of three 1,330  ")?;
+    print!(rt; "* two of 1,332 before a base of three 1,330  ")?;
     let mut area = [0u8; 16384];
     let value = [7u8; 1330];
-    let base = digested(false, &[0u8; 1], false, 0, &value, 3, &value, &mut area);
-    let stated = inserts_before(rt, &area[0..4096])?;
-    close(rt, stated & (base.leaves == 1))
+    let base = digested(None, false, 0, &value, 3, &value, &mut area);
+    let right = inserts_before(rt, &area[0..4096])?;
+    close(rt, right & (base.leaves == 1))
 }
 
 // The area has room for three pages, and four are asked for.
 fn short_area(rt: &impl Print) -> io::Result<()> {
-    say(rt, b"* the same, four pages asked, area of three  ")?;
+    print!(rt; "* the same, four pages asked, area of three  ")?;
     let mut area = [0u8; 12288];
     let value = [7u8; 1332];
-    let after = digested(false, &[0u8; 1], false, 5, &value, 5, &value, &mut area);
+    let after = digested(None, false, 5, &value, 5, &value, &mut area);
     say_reply(rt, after.refusal)?;
     close(rt, after.refusal == 17)
 }
 
 pub(crate) fn run(rt: &impl Print) -> io::Result<()> {
-    values_trial(
-        rt,
-        b"* three values of 1,330                      ",
-        3,
-        &[7u8; 1330],
-        4092,
-        0,
-        0,
-    )?;
-    values_trial(
-        rt,
-        b"* three of 1,331                             ",
-        3,
-        &[7u8; 1331],
-        2730,
-        1365,
-        0,
-    )?;
-    values_trial(
-        rt,
-        b"* four of 1,332                              ",
-        4,
-        &[7u8; 1332],
-        2732,
-        2732,
-        0,
-    )?;
-    values_trial(
-        rt,
-        b"* five of 1,332                              ",
-        5,
-        &[7u8; 1332],
-        2732,
-        2732,
-        1366,
-    )?;
+    values_trial(rt, "* three values of 1,330", 3, &[7u8; 1330], &[4092])?;
+    values_trial(rt, "* three of 1,331", 3, &[7u8; 1331], &[2730, 1365])?;
+    values_trial(rt, "* four of 1,332", 4, &[7u8; 1332], &[2732, 2732])?;
+    values_trial(rt, "* five of 1,332", 5, &[7u8; 1332], &[2732, 2732, 1366])?;
     short_area(rt)?;
-    values_trial(
-        rt,
-        b"* six of 1,200                               ",
-        6,
-        &[7u8; 1200],
-        3702,
-        3702,
-        0,
-    )?;
+    values_trial(rt, "* six of 1,200", 6, &[7u8; 1200], &[3702, 3702])?;
     merge_trial(
         rt,
-        b"* empty base with cutoff, 989 and 990        ",
+        "* empty base with cutoff, 989 and 990",
         &[7u8; 989],
         &[7u8; 990],
-        2047,
+        &[2047],
         0,
     )?;
     merge_trial(
         rt,
-        b"* the same, 989 twice                        ",
+        "* the same, 989 twice",
         &[7u8; 989],
         &[7u8; 989],
-        0,
+        &[],
         1,
     )?;
     inserts_before_a_base(rt)

@@ -1,7 +1,8 @@
 // The trials of `separate`.
 ghost use Rattle.std.specs.Prelude.{◌≡◌, ◌∷◌, replicate};
 
-use crate::line::{close, say, say_hex, say_reply};
+use crate::line::{close, say_reply};
+use leaf_updater::leaf_separate;
 use std::io;
 
 // A key that starts with x, zeros after.
@@ -23,14 +24,7 @@ pub(crate) fn key_of(x: u8, y: u8) -> [u8; 32] {
 
 // Whether all bytes but the first are zero.
 fn zeros_after(key: &[u8; 32]) -> bool {
-    let mut i = 1;
-    while i < 32 {
-        if key[i] != 0 {
-            return false;
-        }
-        i += 1;
-    }
-    true
+    key[1..].iter().all(|x| *x == 0)
 }
 
 // A refusal, or the byte with which the separator starts.
@@ -38,22 +32,21 @@ fn say_separator(rt: &impl Print, reply: u8, first: u8) -> io::Result<()> {
     if reply != 0 {
         return say_reply(rt, reply);
     }
-    say(rt, b"starts ")?;
-    say_hex(rt, first)
+    print!(rt; "starts {first:02x}")
 }
 
 // `separate` of keys that start with a and b: refused by `refusal` (0: accepted), and what it was lent then starts with x.
 fn separate_trial(
     rt: &impl Print,
-    label: &[u8],
+    label: &str,
     a: u8,
     b: u8,
     refusal: u8,
     x: u8,
 ) -> io::Result<()> {
-    say(rt, label)?;
+    print!(rt; "{label:<45}")?;
     let mut out = key_from(0xee);
-    let reply = bit_ops::separate(&key_from(a), &key_from(b), &mut out);
+    let reply = leaf_separate(&key_from(a), &key_from(b), &mut out);
     say_separator(rt, reply, out[0])?;
     close(rt, (reply == refusal) & ((out[0] == x) & zeros_after(&out)))
 }
@@ -61,7 +54,7 @@ fn separate_trial(
 pub(crate) fn run(rt: &impl Print) -> io::Result<()> {
     separate_trial(
         rt,
-        b"* separate, keys starting 10 and 13          ",
+        "* separate, keys starting 10 and 13",
         0x10,
         0x13,
         0,
@@ -69,7 +62,7 @@ pub(crate) fn run(rt: &impl Print) -> io::Result<()> {
     )?;
     separate_trial(
         rt,
-        b"* separate, keys starting 00 and 80          ",
+        "* separate, keys starting 00 and 80",
         0x00,
         0x80,
         0,
@@ -77,18 +70,11 @@ pub(crate) fn run(rt: &impl Print) -> io::Result<()> {
     )?;
     separate_trial(
         rt,
-        b"  separate, the other way round, 13 and 10   ",
+        "  separate, the other way round, 13 and 10",
         0x13,
         0x10,
         0,
         0x10,
     )?;
-    separate_trial(
-        rt,
-        b"  separate, equal keys                       ",
-        0x10,
-        0x10,
-        11,
-        0xee,
-    )
+    separate_trial(rt, "  separate, equal keys", 0x10, 0x10, 11, 0xee)
 }

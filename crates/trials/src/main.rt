@@ -11,15 +11,14 @@ mod works;
 use std::io;
 
 fn main(rt: HostRuntime) -> io::Result<()> {
-    line::say(
-        &rt,
-        b"Document 01, bench trials (* proved as well, as a theorem about the definitions)\n\n",
+    println!(rt;
+        "Document 01, bench trials (* proved as well, as a theorem about the definitions)\n"
     )?;
     keys::run(&rt)?;
     pages::run(&rt)?;
     works::run(&rt)?;
     digests::run(&rt)?;
-    line::say(&rt, b"\nDocument 02\n\n")?;
+    println!(rt; "\nDocument 02\n")?;
     works::reports(&rt)?;
     pages::positions(&rt)
 }

@@ -1,11 +1,11 @@
 // The trials of works.
 use crate::keys::key_from;
-use crate::line::{close, say, say_reply};
+use crate::line::{close, say_reply};
 use crate::pages::flagged_pair;
-use leaf_ingest::Change;
-use leaf_open::Updated;
-use leaf_take::{LeafReport, report_out};
-use leaf_work::Work;
+use leaf_entries::blank_entry;
+use leaf_take::LeafReport;
+use leaf_updater::{leaf_ingest, leaf_open};
+use leaf_work::{Entry, Work};
 use std::io;
 
 pub(crate) fn no_work() -> Work {
@@ -30,117 +30,101 @@ pub(crate) fn no_work() -> Work {
     }
 }
 
-// An opening, with a base where `based` is set and a cutoff where `cut` is, in the mode that reports `every` dropped flagged record or in
-// the Rust's. The calls are few and large, so each has a function of its own.
-pub(crate) fn opened(
-    every: bool,
-    based: bool,
-    page: &[u8],
+// A list that an opening takes.
+pub(crate) fn new_list() -> [Entry; 121] {
+    [blank_entry(); 121]
+}
+
+// The page that a call is lent: the base, or where there is none a byte, which is ignored.
+pub(crate) fn page_of<'a>(base: Option<&'a [u8]>) -> &'a [u8] {
+    base.unwrap_or(&[0u8; 1])
+}
+
+// An opening, with a cutoff where `cut` is set, in the mode that reports every dropped flagged record (1) or in the Rust's (0): the refusal.
+// The calls are few and large, so each has a function of its own.
+pub(crate) fn open(
+    work: &mut Work,
+    mode: u8,
+    base: Option<&[u8]>,
     cut: bool,
-    rows: &mut [[usize; 5]],
-    keys: &mut [[u8; 32]],
+    list: &mut [Entry],
     store: &mut [u8],
-) -> Updated {
-    let none = [0u8; 32];
-    let far = [0xffu8; 32];
-    leaf_open::open(
-        every,
-        based,
-        page,
-        &none,
-        cut,
-        &far,
-        no_work(),
-        rows,
-        keys,
+) -> u8 {
+    leaf_open(
+        work,
+        list,
         store,
+        mode,
+        base.is_some() as u8,
+        page_of(base),
+        &[0u8; 32],
+        cut as u8,
+        &[0xffu8; 32],
     )
 }
 
-fn opens(rows: &mut [[usize; 5]], keys: &mut [[u8; 32]]) -> u8 {
+// An opening of a work without a base.
+fn opens(list: &mut [Entry]) -> u8 {
+    let mut work = no_work();
     let mut store = [0u8; 4096];
-    opened(false, false, &[0u8; 1], false, rows, keys, &mut store).refusal
+    open(&mut work, 0, None, false, list, &mut store)
 }
 
 fn list_of_120(rt: &impl Print) -> io::Result<()> {
-    say(rt, b"  list of 120                                ")?;
-    let mut rows = [[0usize; 5]; 120];
-    let mut keys = [[0u8; 32]; 120];
-    let refusal = opens(&mut rows, &mut keys);
+    print!(rt; "{:<45}", "  list of 120")?;
+    let mut list = [blank_entry(); 120];
+    let refusal = opens(&mut list);
     say_reply(rt, refusal)?;
     close(rt, refusal == 7)
 }
 
 fn list_of_121(rt: &impl Print) -> io::Result<()> {
-    say(rt, b"  list of 121                                ")?;
-    let mut rows = [[0usize; 5]; 121];
-    let mut keys = [[0u8; 32]; 121];
-    let refusal = opens(&mut rows, &mut keys);
+    print!(rt; "{:<45}", "  list of 121")?;
+    let mut list = new_list();
+    let refusal = opens(&mut list);
     say_reply(rt, refusal)?;
     close(rt, refusal == 0)
 }
 
-// An opening, with a base where `based` is set, and an ingest.
-fn ingested(
-    every: bool,
-    based: bool,
-    page: &[u8],
-    key: &[u8; 32],
-    change: Change,
-    value: &[u8],
-) -> LeafReport {
-    let mut rows = [[0usize; 5]; 121];
-    let mut keys = [[0u8; 32]; 121];
+// An opening, and an ingest: of this value, or of a deletion where there is none.
+fn ingested(mode: u8, base: Option<&[u8]>, key: &[u8; 32], value: Option<&[u8]>) -> LeafReport {
+    let mut list = new_list();
     let mut store = [0u8; 4096];
-    let work = opened(every, based, page, false, &mut rows, &mut keys, &mut store).work;
-    let after = leaf_ingest::ingest(
-        work, &mut rows, &mut keys, &mut store, page, key, change, value,
-    );
-    let reply = after.reply;
-    report_out(reply)
+    let mut work = no_work();
+    open(&mut work, mode, base, false, &mut list, &mut store);
+    leaf_ingest(
+        &mut work,
+        &mut list,
+        &mut store,
+        page_of(base),
+        key,
+        value.is_some() as u8,
+        0,
+        value.unwrap_or(&[]),
+    )
 }
 
 // A new value in a work without a base.
-fn value_trial(rt: &impl Print, label: &[u8], value: &[u8], refusal: u8) -> io::Result<()> {
-    say(rt, label)?;
-    let after = ingested(
-        false,
-        false,
-        &[0u8; 1],
-        &[0u8; 32],
-        Change::Put(false),
-        value,
-    );
+fn value_trial(rt: &impl Print, label: &str, value: &[u8], refusal: u8) -> io::Result<()> {
+    print!(rt; "{label:<45}")?;
+    let after = ingested(0, None, &[0u8; 32], Some(value));
     say_reply(rt, after.refusal)?;
     close(rt, after.refusal == refusal)
 }
 
 fn say_report(rt: &impl Print, reported: u8) -> io::Result<()> {
     if reported == 0 {
-        say(rt, b"nothing reported")
+        print!(rt; "nothing reported")
     } else {
-        say(rt, b"reported")
+        print!(rt; "reported")
     }
 }
 
 // A base of two flagged records, of which the one with this key is deleted.
-fn report_trial(
-    rt: &impl Print,
-    label: &[u8],
-    every: bool,
-    first: u8,
-    reported: u8,
-) -> io::Result<()> {
-    say(rt, label)?;
+fn report_trial(rt: &impl Print, label: &str, mode: u8, first: u8, reported: u8) -> io::Result<()> {
+    print!(rt; "{label:<45}")?;
     let page = flagged_pair();
-    let after = ingested(
-        every,
-        true,
-        &page,
-        &key_from(first),
-        Change::Delete,
-        &[0u8; 1],
-    );
+    let after = ingested(mode, Some(&page), &key_from(first), None);
     say_report(rt, after.reported)?;
     close(rt, (after.refusal == 0) & (after.reported == reported))
 }
@@ -148,48 +132,14 @@ fn report_trial(
 pub(crate) fn run(rt: &impl Print) -> io::Result<()> {
     list_of_120(rt)?;
     list_of_121(rt)?;
-    value_trial(
-        rt,
-        b"  new value of 1,332                         ",
-        &[7u8; 1332],
-        0,
-    )?;
-    value_trial(
-        rt,
-        b"  new value of 1,333                         ",
-        &[7u8; 1333],
-        12,
-    )?;
-    report_trial(
-        rt,
-        b"  flagged first base record deleted          ",
-        false,
-        0,
-        0,
-    )?;
-    report_trial(
-        rt,
-        b"  flagged second one deleted first           ",
-        false,
-        1,
-        1,
-    )
+    value_trial(rt, "  new value of 1,332", &[7u8; 1332], 0)?;
+    value_trial(rt, "  new value of 1,333", &[7u8; 1333], 12)?;
+    report_trial(rt, "  flagged first base record deleted", 0, 0, 0)?;
+    report_trial(rt, "  flagged second one deleted first", 0, 1, 1)
 }
 
 // Document 02, M-100: the same where every dropped flagged record is reported.
 pub(crate) fn reports(rt: &impl Print) -> io::Result<()> {
-    report_trial(
-        rt,
-        b"M-100: flagged first base record deleted     ",
-        true,
-        0,
-        1,
-    )?;
-    report_trial(
-        rt,
-        b"M-100: flagged second one deleted first      ",
-        true,
-        1,
-        1,
-    )
+    report_trial(rt, "M-100: flagged first base record deleted", 1, 0, 1)?;
+    report_trial(rt, "M-100: flagged second one deleted first", 1, 1, 1)
 }
