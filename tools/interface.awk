@@ -121,6 +121,20 @@ function read_rust(    all, parts, n, i, name, type) {
         sub(/: u8 =/, "", found)
         print "const " found
     }
+    text = all
+    if (!next_match("pub enum Refusal \\{[^}]*\\}")) return
+    n = split(inside(found, "{", "}"), parts, ",")
+    for (i = 1; i <= n; i++) if (parts[i] ~ /=/) print "const " constant_of(trimmed(parts[i]))
+}
+
+# a case of an enum, `ShortArea = 17`, as a constant: SHORT_AREA 17
+function constant_of(variant,    name, i, c) {
+    for (i = 1; i <= length(variant); i++) {
+        c = substr(variant, i, 1)
+        name = name (i > 1 && c ~ /[A-Z]/ ? "_" : "") toupper(c)
+    }
+    sub(/ = /, " ", name)
+    return name
 }
 
 # a field or an argument: its name and type. A lent slice is a pointer and a length.

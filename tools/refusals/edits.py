@@ -133,6 +133,17 @@ def apart(root, edit):
 
 
 def function_at(source, old):
-    """The name of the function in whose text `old` begins."""
-    names = re.findall(r'^(?:pub )?(?:extern "C" )?fn (\w+)', source[: source.find(old) + len(old)], re.M)
-    return names[-1] if names else ""
+    """The name of the function in whose text `old` begins; of a method the head of its `impl` stands before it."""
+    before = source[: source.find(old) + len(old)]
+    heads = re.findall(r'^(impl\b.*?) \{|^( *)(?:pub )?(?:extern "C" )?fn (\w+)', before, re.M)
+    impls = [impl for impl, _, _ in heads if impl]
+    functions = [(indent, name) for impl, indent, name in heads if not impl]
+    if not functions:
+        return ""
+    indent, name = functions[-1]
+    return f"{impls[-1]}::{name}" if indent and impls else name
+
+
+def last_name(function):
+    """A function's name without what stands before it."""
+    return function.rpartition("::")[2]

@@ -5,7 +5,7 @@ from dataclasses import dataclass
 
 ERROR = re.compile(r"^(?P<path>\S+):\d+:\d+: error: `(?P<declaration>[^`]+)`: ")
 # goals without an answer, which the prover's own search does not close
-UNPROVED = re.compile(r"^fn \w+::(?P<function>\w+): .*?`search` did not prove (?P<needs>[^;]*)")
+UNPROVED = re.compile(r"^fn \w+::(?P<function>[\w:]+): .*?`search` did not prove (?P<needs>[^;]*)")
 # what rests on another declaration, or on what the changed code no longer has, says nothing of the fact itself
 MISFIT = re.compile(r"was not admitted|which was rejected|has no field|has no `|is not in scope")
 # nor does a refusal that is over once another definition is unfolded, as a note behind it says
@@ -14,7 +14,7 @@ UNFOLDED = "of this declaration was admitted by the kernel"
 
 @dataclass
 class Error:
-    # the file or folder under proofs/, and the declaration in it
+    # the file of laws or the function, and the declaration or goal in it
     file: str
     declaration: str
     text: str
@@ -45,9 +45,9 @@ def errors_of(log):
 
 
 def place_of(path):
-    """The folder of a function's proof, or the file of laws without its ending."""
+    """The function whose proof it is, a method with its type before it, or the file of laws without its ending."""
     below = path.rpartition("/proofs/")[2]
-    return below.partition("/")[0] if "/" in below else below.removesuffix(".antt")
+    return below.rpartition("/")[0].replace("/", "::") if "/" in below else below.removesuffix(".antt")
 
 
 def at(errors, place):

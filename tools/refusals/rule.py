@@ -8,7 +8,7 @@ from pathlib import Path
 import kit
 
 from . import logs, runs
-from .edits import BadEdit, apart, edits_of, functions_of
+from .edits import BadEdit, apart, edits_of, functions_of, last_name
 from .rows import is_computed_row
 from .tries import Tries
 
@@ -80,7 +80,7 @@ def amiss_in_code(root, edit, answer):
     if not answer.shown:
         yield "nothing shows that it is wrong", "write `shown: EXPRESSION`, which holds of the crate and not with this answer"
     functions = functions_of(root, edit, answer)
-    if functions != {p.file for p in answer.places}:
+    if {last_name(f) for f in functions} != {last_name(p.file) for p in answer.places}:
         yield f"it changes {', '.join(sorted(functions))}, and another proof is to refuse it", "name the function that it changes"
 
 
