@@ -228,7 +228,7 @@ typedef struct {
  * The mode, one of enum LeafMode, stays until the work is opened again; any number but 0 is LEAF_REPORT_EVERY.
  * Answers 0 or the refusal. Leaves a new work record, and zeros in all of list and store, whatever all three held.
  * Refuses by: 1 to 5 for the base's page; 6; 7.
- * Stack: 1,024 bytes.
+ * Stack: 384 bytes.
  */
 uint8_t leaf_open(LeafWork *work, LeafEntry *list, size_t list_len, uint8_t *store, size_t store_len, uint8_t mode,
                   uint8_t based, const uint8_t *page, size_t page_len, const uint8_t separator[LEAF_KEY_SIZE],
@@ -240,7 +240,7 @@ uint8_t leaf_open(LeafWork *work, LeafEntry *list, size_t list_len, uint8_t *sto
  * its place in the page is reported: always in mode LEAF_REPORT_EVERY, else if at least one was taken up just before it in this call.
  * Leaves at most two new entries in the list, and the value in the store.
  * Refuses by: 1 to 6 for the base's page; 7; 8; 9 when waiting or done; 12; 13; 14; 15; 16. A deletion is never refused by 12, 15 or 16.
- * Stack: 3,008 bytes.
+ * Stack: 896 bytes.
  */
 LeafReport leaf_ingest(LeafWork *work, LeafEntry *list, size_t list_len, uint8_t *store, size_t store_len,
                        const uint8_t *page, size_t page_len, const uint8_t key[LEAF_KEY_SIZE], uint8_t put, uint8_t flag,
@@ -252,7 +252,7 @@ LeafReport leaf_ingest(LeafWork *work, LeafEntry *list, size_t list_len, uint8_t
  * Leaves a work that is done, with list and store all zeros; or one that waits for a merge, with the records that are left as inserts.
  * Refuses by: 1 to 6 for the base's page; 7; 8; 9 when waiting or done; 17 where the area is shorter than LEAF_AREA_ASKED of the pending
  * body or the tickets shorter than LEAF_TICKETS_ASKED, also where it would give no leaf.
- * Stack: 4,864 bytes.
+ * Stack: 1,984 bytes.
  */
 LeafGave leaf_digest(LeafWork *work, LeafEntry *list, size_t list_len, uint8_t *store, size_t store_len,
                      const uint8_t *page, size_t page_len, uint8_t *area, size_t area_len, uint8_t *tickets,
@@ -262,7 +262,7 @@ LeafGave leaf_digest(LeafWork *work, LeafEntry *list, size_t list_len, uint8_t *
  * The next base of a work that waits, or is done and has a cutoff: its separator is at or above that cutoff. The work is then open.
  * Answers 0 or the refusal; changes the work record alone.
  * Refuses by: 1 to 6 for the new page; 7; 8 when waiting or done; 9 when open, or done without a cutoff; 13; 15; 16.
- * Stack: 2,880 bytes.
+ * Stack: 832 bytes.
  */
 uint8_t leaf_next_base(LeafWork *work, const LeafEntry *list, size_t list_len, const uint8_t *store, size_t store_len,
                        const uint8_t *page, size_t page_len, const uint8_t separator[LEAF_KEY_SIZE], uint8_t cut,
@@ -272,7 +272,7 @@ uint8_t leaf_next_base(LeafWork *work, const LeafEntry *list, size_t list_len, c
  * Removes the cutoff of a work that waits: there is no further leaf to merge with. The work is then open, with no base.
  * Answers 0 or the refusal; changes the work record alone.
  * Refuses by: 7; 8 when waiting or done; 9 when open or done.
- * Stack: 2,112 bytes.
+ * Stack: 640 bytes.
  */
 uint8_t leaf_remove_cutoff(LeafWork *work, const LeafEntry *list, size_t list_len, const uint8_t *store,
                            size_t store_len);
@@ -281,7 +281,7 @@ uint8_t leaf_remove_cutoff(LeafWork *work, const LeafEntry *list, size_t list_le
  * Pending record i, in every turn: the listed ones in order, then the base's rest. The value is len bytes from offset on, of the store or
  * of the base's page, as holder says. Only reads.
  * Refuses by: 1 to 6 for the base's page; 7; 8; 10 where i is not below the number of pending records.
- * Stack: 2,368 bytes.
+ * Stack: 1,216 bytes.
  */
 LeafTwinPlace leaf_twin(LeafWork work, const LeafEntry *list, size_t list_len, const uint8_t *store, size_t store_len,
                         const uint8_t *page, size_t page_len, size_t i);
@@ -289,20 +289,20 @@ LeafTwinPlace leaf_twin(LeafWork work, const LeafEntry *list, size_t list_len, c
 /*
  * Copies the value of pending record i to the start of out, if out has room for all of it, else nothing. Answers the value's length: 0
  * also where leaf_twin refuses, which tells a refusal from an empty value. Has no refusals of its own.
- * Stack: 2,432 bytes.
+ * Stack: 1,216 bytes.
  */
 size_t leaf_part(LeafWork work, const LeafEntry *list, size_t list_len, const uint8_t *store, size_t store_len,
                  const uint8_t *page, size_t page_len, size_t i, uint8_t *out, size_t out_len);
 
 /*
  * Whether a key is below the work's cutoff, 1 or 0; 1 where it has none. Reads the work record alone and refuses nothing.
- * Stack: 512 bytes.
+ * Stack: 256 bytes.
  */
 uint8_t leaf_is_in_scope(LeafWork work, const uint8_t key[LEAF_KEY_SIZE]);
 
 /*
  * Writes the current separator, where the next leaf begins, into out. Reads the work record alone and refuses nothing.
- * Stack: 512 bytes.
+ * Stack: 320 bytes.
  */
 void leaf_separator(LeafWork work, uint8_t out[LEAF_KEY_SIZE]);
 
@@ -310,7 +310,7 @@ void leaf_separator(LeafWork work, uint8_t out[LEAF_KEY_SIZE]);
 
 /*
  * How many leading bits two keys share, counted from the top of byte 0: 256 for equal ones. Refuses nothing.
- * Stack: 128 bytes.
+ * Stack: 64 bytes.
  */
 size_t leaf_prefix_len(const uint8_t a[LEAF_KEY_SIZE], const uint8_t b[LEAF_KEY_SIZE]);
 
@@ -318,7 +318,7 @@ size_t leaf_prefix_len(const uint8_t a[LEAF_KEY_SIZE], const uint8_t b[LEAF_KEY_
  * Writes the separator of a and b into out: b's leading bits, one more than the two share, then zeros. Answers 0 or the
  * refusal; refused, out keeps what it held.
  * Refuses by: 11.
- * Stack: 128 bytes.
+ * Stack: 64 bytes.
  */
 uint8_t leaf_separate(const uint8_t a[LEAF_KEY_SIZE], const uint8_t b[LEAF_KEY_SIZE], uint8_t out[LEAF_KEY_SIZE]);
 
@@ -327,21 +327,21 @@ uint8_t leaf_separate(const uint8_t a[LEAF_KEY_SIZE], const uint8_t b[LEAF_KEY_S
 /*
  * Answers 0 for a good page.
  * Refuses by: 1 to 5.
- * Stack: 192 bytes.
+ * Stack: 64 bytes.
  */
 uint8_t leaf_page_check(const uint8_t *page, size_t page_len);
 
 /*
  * Key i of the page.
  * Refuses by: 1 to 5; 10 where i is not below the number of records.
- * Stack: 192 bytes.
+ * Stack: 128 bytes.
  */
 LeafKey leaf_page_key(const uint8_t *page, size_t page_len, size_t i);
 
 /*
  * Value i of the page.
  * Refuses by: 1 to 5; 10 where i is not below the number of records.
- * Stack: 192 bytes.
+ * Stack: 64 bytes.
  */
 LeafValue leaf_page_value(const uint8_t *page, size_t page_len, size_t i);
 
@@ -349,14 +349,14 @@ LeafValue leaf_page_value(const uint8_t *page, size_t page_len, size_t i);
  * The value of a key in the page, or absent, with the position at which the key would stand, 0 to the number of records: the records
  * before it have smaller keys, those from it on greater ones. leaf_page_key answers those neighbours.
  * Refuses by: 1 to 5.
- * Stack: 320 bytes.
+ * Stack: 128 bytes.
  */
 LeafValue leaf_page_get(const uint8_t *page, size_t page_len, const uint8_t key[LEAF_KEY_SIZE]);
 
 /*
  * The bytes of the values of records `from` up to, not including, `to`.
  * Refuses by: 1 to 5; 10 unless from < to and to is at most the number of records.
- * Stack: 192 bytes.
+ * Stack: 64 bytes.
  */
 LeafSize leaf_page_values_size(const uint8_t *page, size_t page_len, size_t from, size_t to);
 
@@ -378,7 +378,7 @@ uint8_t leaf_page_rebuild(const uint8_t *page, size_t page_len, size_t from, siz
  * bits, each at most 2 to the 40th. The tree's flagged records are skipped, and other trees' records aren't looked at. The total, pieces and sprue, is exact; its product with the factor differs from the exact one
  * by at most one part in 2 to the 53rd of it; melt is the smallest whole number not below the product. Only reads.
  * Refuses by: 1 for pages that aren't 4,096 bytes each with one separator each; 2 to 6 for any page; 18; 19; 20; 24 for a total over 2 to the 40th.
- * Stack: 448 bytes.
+ * Stack: 320 bytes.
  */
 LeafMelt leaf_melt(const uint8_t *pages, size_t pages_len, const uint8_t (*separators)[LEAF_KEY_SIZE],
                    size_t separators_len, const uint8_t tree[LEAF_TREE_SIZE]);
