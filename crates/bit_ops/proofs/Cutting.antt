@@ -1,4 +1,4 @@
--- What `cleared_from` and `cut_at` have at each place, and what number a cut spells. Assumes nothing.
+-- What `cut_at` has at each place, what number a cut spells, and that cutting as the code does gives it. Assumes nothing.
 use mathlib.Core.Path.{◌≡◌, refl, sym, ◌∙◌}
 use mathlib.Core.Logic.{◌⊎◌, inl, inr}
 use mathlib.Core.List.{List, [], ◌∷◌, append-nil}
@@ -10,7 +10,7 @@ use borrow.Rule.Slice.PartMut.{put_mid}
 use Rattle.std.proofs.lemmas.Slice.{put_mid-paste}
 use lib.Dec.{lit<}
 use lib.ListN.{length, get_or, take, drop, set, length-set, drop_of_length-le, length-append, length-replicate, get_or-append}
-use lib.Seq.{take_all, length-take-le, get_or-take, get_or_at, get_or-append-add, take_at, take-suc-set, append_snoc}
+use lib.Seq.{take_all, length-take-le, get_or-take, get_or_at, get_or-append-add, take-suc-set, append_snoc}
 use Rattle.bit_ops.specs.Key.{Bytes, Key, num, bytes_of}
 use Rattle.bit_ops.specs.Separate.{leading}
 use Rattle.bit_ops.specs.Steps.{zeros, cleared_from, cut_at, cut_after}
@@ -30,24 +30,6 @@ num_zeros : (n : ℕ) → num (zeros n) ≡ 0
 unfolding num
 num_zeros zero = refl
 num_zeros (suc n) = rw (num_zeros n) (omega arith)
-
-module _ (k : List ℕ) (from : ℕ) (h : from ≤ 32) (l : length k ≡ 32) where
-  kept : length (take from k) ≡ from
-  kept = length-take-le from k (omega arith)
-
-  pub length_cleared : length (cleared_from k from) ≡ 32
-  unfolding cleared_from
-  length_cleared = rw (length-append (take from k) (zeros (32 - from)), kept, length_zeros (32 - from)) (omega arith)
-
-  pub cleared_before : take from (cleared_from k from) ≡ take from k
-  unfolding cleared_from
-  cleared_before = take_at (take from k) (zeros (32 - from)) from kept
-
-  pub cleared_after : (j : ℕ) → from ≤ j → 0 ≡ get_or (cleared_from k from) j 0
-  unfolding cleared_from
-  cleared_after j g =
-      let e : j ≡ length (take from k) + (j - from) = omega (arith, kept) in
-      rw (e, get_or-append-add (take from k) (zeros (32 - from)) (j - from) 0) (sym (zeros_at (32 - from) (j - from)))
 
 module _ (b : List ℕ) (i y : ℕ) (h : i < 32) (l : length b ≡ 32) where
   front : length (take i b) ≡ i

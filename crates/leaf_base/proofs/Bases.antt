@@ -6,19 +6,14 @@ use mathlib.Core.List.{List}
 use Prim.Native.Nat.{ℕ}
 use lib.Dec.{eqb}
 use borrow.Author.Tests.{ne_eqb, eqb-true, eqb-false, not-true, not-false}
-use Rattle.bit_ops.specs.Key.{lt_key}
 use Rattle.leaf_node.specs.Page.{records}
 use Rattle.leaf_node.specs.Good.{page_verdict}
 use Rattle.leaf_model.specs.Work.{below_cutoff}
-use Rattle.leaf_work.specs.Tests.{key_if}
 use Rattle.leaf_work.specs.Sound.{keys_within}
 use Rattle.leaf_work.specs.Verdict.{unless, first, base_verdict, keys_verdict}
 
 pub first_refused : (v w : ℕ) → (v ≡ 0 → ⊥) → first v w ≡ v
 first_refused v w h = rw (ne_eqb v 0 h, first)
-
-pub a_cutoff_decides : (cut : Bool) (k c : List ℕ) (r : Bool) → cut ≡ true → r ≡ lt_key k c → r ≡ below_cutoff (key_if cut c) k
-a_cutoff_decides cut k c r h e = rw (h, e)
 
 module _ (size : ℕ) (p s : List ℕ) (c : Option (List ℕ)) where
   module _ (v : ℕ) (e : v ≡ page_verdict size p) where

@@ -4,7 +4,6 @@
 
 ghost use Rattle.std.specs.Prelude.{◌≡◌, ◌<◌, IfOk};
 ghost use Rattle.refusal.specs.Numbers.{number_of};
-ghost use Rattle.leaf_node.specs.Limits.{PageSize};
 ghost use Rattle.leaf_node.specs.Page.{records};
 ghost use Rattle.leaf_node.specs.Good.{KeysRise};
 ghost use Rattle.leaf_work.specs.Tests.{lent_key};
@@ -12,7 +11,7 @@ ghost use Rattle.leaf_work.specs.Sound.{keys_within};
 ghost use Rattle.leaf_work.specs.Verdict.{base_verdict, keys_verdict};
 
 use bit_ops::less;
-use leaf_node::LeafNode;
+use leaf_node::{LeafNode, Size};
 use leaf_work::is_below;
 use refusal::Refusal;
 
@@ -42,10 +41,9 @@ pub fn keys_verdict<'a>(
     page: &'a [u8],
     separator: &[u8; 32],
     cutoff: Option<&[u8; 32]>,
-    size: usize,
+    size: Size,
 ) -> Result<LeafNode<'a>, Refusal>
-    requires { PageSize size }
-    ensures number { number_of result ≡ keys_verdict size page.now separator.now (lent_key cutoff.entry) }
+    ensures number { number_of result ≡ keys_verdict size.bytes page.now separator.now (lent_key cutoff.entry) }
     ensures page { IfOk result (λ node. node.page.now ≡ page.now) }
 {
     let node = LeafNode::new(page, size)?;
@@ -60,10 +58,9 @@ pub fn base_verdict<'a>(
     page: &'a [u8],
     separator: &[u8; 32],
     cutoff: Option<&[u8; 32]>,
-    size: usize,
+    size: Size,
 ) -> Result<LeafNode<'a>, Refusal>
-    requires { PageSize size }
-    ensures number { number_of result ≡ base_verdict size page.now separator.now (lent_key cutoff.entry) }
+    ensures number { number_of result ≡ base_verdict size.bytes page.now separator.now (lent_key cutoff.entry) }
     ensures page { IfOk result (λ node. node.page.now ≡ page.now) }
 {
     let node = keys_verdict(page, separator, cutoff, size)?;

@@ -46,13 +46,6 @@ pub put_parts : (d : List ℕ) (at : ℕ) (s : List ℕ) → put d at s ≡ take
 unfolding put
 put_parts d at s = append_assoc (take at d) s (drop (at + length s) d)
 
--- t in the place of s
-pub put_over : (d : List ℕ) (at : ℕ) (s t : List ℕ) → at ≤ length d → length s ≡ length t → put (put d at s) at t ≡ put d at t
-put_over d at s t h e =
-    let l : length (take at d) ≡ at = length-take-le at d h in
-    let r : List ℕ = drop (at + length s) d in
-    rw (put_parts d at s, put_past (take at d) (s ++ r) t at 0 (omega arith), put_front s r t e, put_parts d at t, e)
-
 -- t right behind s
 pub put_put : {A : Type 0} (d : List A) (at : ℕ) (s : List A) (b : ℕ) (t : List A) → b ≡ at + length s → at ≤ length d → put (put d at s) b t ≡ put d at (s ++ t)
 unfolding put

@@ -37,9 +37,6 @@ module _ (p d : List ℕ) (from mid to : ℕ) (w : Parts p from mid to (length d
   laid : Laid p (count p)
   laid = good_pages_are_laid (length d) p w.sized w.good
 
-  pub parts_long : 2 ≤ length p
-  parts_long = omega (arith, laid.inside)
-
   pub parts_laid : (n : ℕ) → n ≡ count p → Laid p n
   parts_laid n e = rw e laid
 

@@ -13,7 +13,6 @@ use Rattle.leaf_node.specs.Record.{Record, values, total}
 use Rattle.leaf_node.specs.Page.{count, pointer, key_at, offset_at, flag_at, start, length_at, value_at, record_at, run, records_between, values_size}
 use Rattle.leaf_node.specs.Build.{le16, tagged, pointers, put, started, pushed}
 use Rattle.leaf_node.specs.Cell.{cell_at}
-use Rattle.leaf_node.specs.Steps.{Readable}
 use Rattle.leaf_node.specs.Fits.{All, nil, cons, Keyed}
 use Rattle.leaf_node.specs.declared.Cell as node
 use Rattle.leaf_node.proofs.Reading.{start_in}
@@ -99,9 +98,6 @@ pushed_none d j at = rw (put_none, put_none)
 -- ---- a chunk
 
 module _ (p : List ℕ) (from to m j at : ℕ) (c : Chunk p from to m j at) where
-  pub chunk_long : 2 ≤ length p
-  chunk_long = omega (arith, c.laid.inside)
-
   starts : (i k : ℕ) → i ≤ k → k ≤ to → start p i ≤ start p k
   starts i k h l = starts_between p (count p) c.laid i k h (omega (arith, c.there))
 
@@ -173,9 +169,6 @@ chunk_pushed p d x y v from to j at a b c ex ea eb ev ey =
 -- ---- a record of a page
 
 module _ (p : List ℕ) (i m j at : ℕ) (c : Chunk p i (i + 1) m j at) where
-  pub record_readable : Readable p i
-  record_readable = record { inside = c.laid.inside; there = omega (arith, c.there); step = c.laid.steps i (omega (arith, c.there)) }
-
   pub record_end : start p (i + 1) ≤ length p
   record_end = start_inside p (count p) c.laid (i + 1) c.there
 
@@ -194,12 +187,6 @@ record_next p v i m j at r a n c e q ea en =
 
 pub cells_start : (p d : List ℕ) (from j at : ℕ) → d ≡ pushed d j at (records_between p from from)
 cells_start p d from j at = rw (records_none p from) (sym (pushed_none d j at))
-
-pub cells_done : (p d x : List ℕ) (from to i j at : ℕ) → x ≡ pushed d j at (records_between p from i) → i ≤ to → to ≤ i → x ≡ pushed d j at (records_between p from to)
-cells_done p d x from to i j at e h l = e ∙ ap (λ (k : ℕ). pushed d j at (records_between p from k)) (omega arith)
-
-pub cells_end : (p : List ℕ) (from to i at next : ℕ) → next ≡ at + (start p i - start p from) → i ≤ to → to ≤ i → next ≡ at + (start p to - start p from)
-cells_end p from to i at next e h l = e ∙ ap (λ (k : ℕ). at + (start p k - start p from)) (omega arith)
 
 module _ (p d : List ℕ) (from to j at i k next : ℕ) (c : Chunk p from to (length d) j at) (h : from ≤ i) (l : i < to) (ek : k ≡ j + (i - from))
     (en : next ≡ at + (start p i - start p from)) where
@@ -239,7 +226,3 @@ module _ (p d : List ℕ) (from to j at i k next : ℕ) (c : Chunk p from to (le
       let kd : All Keyed (record_at p i ∷ []) = cons (key_length p (count p) c.laid i (omega (arith, c.there))) nil in
       ey ∙ rw (ex, ks, ns, records_more p from i h)
       (pushes_join d j at rs (record_at p i ∷ []) (keyed p from to (length d) j at c i h (omega arith)) kd (omega (arith, c.room)) (omega (arith, c.fits)))
-
--- the turns of a loop over i come to an end
-pub closer : (i to : ℕ) → i < to → to - (i + 1) < to - i
-closer i to h = omega arith

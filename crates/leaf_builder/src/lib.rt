@@ -6,14 +6,14 @@
 ghost use Rattle.std.specs.Prelude.{◌≡◌, [], ◌∷◌, ◌++◌, ◌+◌, ◌-◌, ◌≤◌, ◌<◌, length};
 ghost use Rattle.refusal.specs.Numbers.{number_of};
 ghost use Rattle.bit_ops.specs.Steps.{zeros};
-ghost use Rattle.leaf_node.specs.Limits.{PageSize};
 ghost use Rattle.leaf_node.specs.Page.{pointer, key_at, offset_at, flag_at, start, record_at, records_between};
 ghost use Rattle.leaf_node.specs.Build.{le16, tagged, pointers, put, started, pushed, build};
 ghost use Rattle.leaf_builder.specs.Steps.{Begins, CellFits, Shift, Chunk, Parts, pointer_moved};
 ghost use Rattle.leaf_builder.specs.Rebuild.{rebuild_verdict, rebuild_leaves};
 
 use leaf_node::{
-    PAGE_SIZE, cell_at, copy_in, count_of, key_at, number_at, size_between, start_at, verdict,
+    PAGE, PAGE_SIZE, Size, cell_at, copy_in, count_of, key_at, number_at, size_between, start_at,
+    verdict,
 };
 use refusal::Refusal;
 
@@ -85,20 +85,13 @@ fn push_pointer(page: &[u8], i: usize, d: &mut [u8], place: usize, first: usize,
     put_word(d, place + 32, number_at(page, i) + at - first);
 }
 
-// The pointers of a chunk whose values move from `first` to `at`, each written a single time: after each record the pointers up
-// to it are final and the later ones as before (`PointersUpTo`).
-fn move_pointers(
-    page: &[u8],
-    from: usize,
-    to: usize,
-    d: &mut [u8],
-    j: usize,
-    first: usize,
-    at: usize,
-)
-    requires { (Chunk page.now from to (length d.old) j at) × (first ≡ start page.now from) }
+// The pointers of a chunk whose values move to `at`, each written a single time: after each record the pointers up to it are
+// final and the later ones as before (`PointersUpTo`).
+fn move_pointers(page: &[u8], from: usize, to: usize, d: &mut [u8], j: usize, at: usize)
+    requires { Chunk page.now from to (length d.old) j at }
     ensures { d.new ≡ put d.old (pointer j) (pointers at (records_between page.now from to)) }
 {
+    let first = start_at(page, count_of(page), from);
     let mut place = 34 * j + 2;
     for i in from..to {
         push_pointer(page, i, d, place, first, at);
@@ -117,7 +110,7 @@ fn push_pointers(page: &[u8], from: usize, to: usize, d: &mut [u8], j: usize, at
         copy_in(&page[34 * from + 2..34 * to + 2], d, 34 * j + 2);
         return;
     }
-    move_pointers(page, from, to, d, j, first, at);
+    move_pointers(page, from, to, d, j, at);
 }
 
 // Pushes records `from` up to `to` of a page as records from j on, their values from byte `at` on, in one copy. Answers
@@ -175,14 +168,13 @@ fn build_parts(page: &[u8], from: usize, mid: usize, to: usize, d: &mut [u8])
 // What refuses `rebuild` into an area of `room` bytes.
 fn rebuild_verdict(
     page: &[u8],
-    size: usize,
+    size: Size,
     from: usize,
     mid: usize,
     to: usize,
     room: usize,
 ) -> Result<(), Refusal>
-    requires { PageSize size }
-    ensures { number_of result ≡ rebuild_verdict size page.now from mid to room }
+    ensures { number_of result ≡ rebuild_verdict size.bytes page.now from mid to room }
 {
     verdict(page, size)?;
     if mid < from {
@@ -194,7 +186,7 @@ fn rebuild_verdict(
     if count_of(page) < to {
         return Err(Refusal::NoSuchIndex);
     }
-    if room < size {
+    if room < size.bytes {
         return Err(Refusal::ShortArea);
     }
     Ok(())
@@ -212,8 +204,7 @@ pub fn rebuild(
     ensures value { number_of result ≡ rebuild_verdict 4096 page.now from mid to (length out.old) }
     ensures out_after { out.new ≡ rebuild_leaves 4096 page.now from mid to out.old }
 {
-    rebuild_verdict(page, PAGE_SIZE, from, mid, to, out.len())?;
-    let size = PAGE_SIZE;
-    build_parts(page, from, mid, to, &mut out[..size]);
+    rebuild_verdict(page, PAGE, from, mid, to, out.len())?;
+    build_parts(page, from, mid, to, &mut out[..PAGE_SIZE]);
     Ok(())
 }

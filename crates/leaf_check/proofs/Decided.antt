@@ -1,6 +1,6 @@
 -- Soundness as the code tests it is soundness as document 01 asks it. Assumes nothing.
 use mathlib.Core.Path.{◌≡◌, refl, sym, ap, subst, ◌∙◌}
-use mathlib.Core.Bool.{Bool, true, false, not, ◌&&◌, ◌||◌, false≢true}
+use mathlib.Core.Bool.{Bool, true, false, not, ◌&&◌, ◌||◌, false≢true, cond}
 use mathlib.Core.Option.{Option}
 use mathlib.Core.List.{List, [], ◌∷◌, ◌++◌, append-nil}
 use Prim.Native.Nat.{ℕ, suc, ◌+◌, ◌-◌, ◌*◌, ◌≤◌, ◌<◌}
@@ -10,6 +10,10 @@ use lib.Dec.{eqb, leb, ltb}
 use lib.ListN.{length, take, drop, length-append, take-append-drop}
 use lib.Seq.{length-take-le}
 use borrow.Author.Tests.{eq-eqb, ne_eqb, eqb-true, lt-ltb, le-ltb, le-leb, lt-leb, leb-true}
+use Rattle.std.specs.Prelude as std
+use Rattle.std.specs.Prelude.{Some, None, option_and_then}
+use Rattle.std.specs.Option.{option_map_or}
+use Rattle.std.proofs.lemmas.Option.{cond_some, option_and_then_some}
 use Rattle.bit_ops.specs.Key.{lt_key}
 use Rattle.leaf_node.specs.Limits.{PageSize, value_limit, merge_below}
 use Rattle.leaf_node.specs.Record.{Record, body, total}
@@ -41,8 +45,9 @@ use Rattle.leaf_pass.specs.declared.Bounds.{Bounds}
 use Rattle.leaf_pass.specs.Pass.{is_behind, passed_all, begun}
 use Rattle.leaf_check.specs.Settled.{Regardable, bounds_of, listed_right, waiting_fits, turn_right, room_for, rest_right, pass_right, record_right, within, entries_sound, sound_by}
 use Rattle.leaf_check.proofs.Results.{no_page}
+use Rattle.leaf_pass.proofs.Behind.{blanks_pass}
 use Rattle.leaf_pass.proofs.Rises.{behind, rises, last_from, is_some, is_behind_lem, rises_left, rises_right, rises_append, last_append, between_rises, between_first, between_last, between_is, between_some, rise_of, at_or_above_of, rises_of, below_all, last_is_below, above_last_all, past_is}
-use Rattle.leaf_pass.proofs.Walks.{Come, inserts_in, passed_append, right_before, blanks_pass, passed_blanks, walked, walk_is_the_pass, come, to_walk}
+use Rattle.leaf_pass.proofs.Walks.{Come, inserts_in, passed_append, walked, walk_is_the_pass, come, to_walk}
 
 same_suc : (a b : ℕ) → eqb (suc a) (suc b) ≡ eqb a b
 same_suc a b = one_test _ _ (λ h. eq-eqb a b (omega (arith, eqb-true (suc a) (suc b) h))) (λ h. eq-eqb (suc a) (suc b) (omega (arith, eqb-true a b h)))
@@ -366,40 +371,41 @@ module _ (size : ℕ) (q : PageSize size) (w : Work) (list : List Entry) (store 
 
   -- ---- both ways
 
-  abbrev whole : Pass
+  abbrev whole : std.Option Pass
   whole = passed_all b p (begun sep) list
 
-  the_whole : whole ≡ passed_all b p (passed_all b p (begun sep) es) (drop w.used list)
+  the_whole : whole ≡ option_and_then (λ y. passed_all b p y (drop w.used list)) (passed_all b p (begun sep) es)
   the_whole = ap (λ (xs : List Entry). passed_all b p (begun sep) xs) (sym (take-append-drop w.used list)) ∙ passed_append b p (begun sep) es (drop w.used list)
+
+  abbrev settled : std.Option Pass → Bool
+  settled o = option_map_or (λ z. pass_right size w z p (length list) (length store)) o false
+
+  settled_by : (o : std.Option Pass) → settled o ≡ true → (z : Pass) × (o ≡ Some z) × (pass_right size w z p (length list) (length store) ≡ true)
+  settled_by None h = absurd (false≢true h)
+  settled_by (Some z) h = (z, refl, h)
 
   by_clauses : sound_by size w list store p ≡ true → Clauses size w list store p
   unfolding sound_by entries_sound
   by_clauses h =
       let inside = within w (length list) (length store) (count p) in
       let clear = every is_zero (drop w.filled store) in
-      let end = pass_right size w whole p (length list) (length store) in
-      let h₁ = and_right (record_right w) (inside && (clear && (whole.right && end))) h in
-      let h₂ = and_right inside (clear && (whole.right && end)) h₁ in
-      let h₃ = and_right clear (whole.right && end) h₂ in
-      let i₀ = and_left inside (clear && (whole.right && end)) h₁ in
+      let h₁ = and_right (record_right w) (inside && (clear && settled whole)) h in
+      let h₂ = and_right inside (clear && settled whole) h₁ in
+      let i₀ = and_left inside (clear && settled whole) h₁ in
       let i₁ = and_right (leb w.used (length list)) (leb w.filled (length store) && leb w.low (count p)) i₀ in
+      let end = settled_by whole (and_right clear (settled whole) h₂) in
       from_pass (leb-true _ _ (and_left (leb w.used (length list)) _ i₀)) (leb-true _ _ (and_left (leb w.filled (length store)) _ i₁))
-      (leb-true _ _ (and_right (leb w.filled (length store)) (leb w.low (count p)) i₁)) (and_left (record_right w) _ h) (and_left clear _ h₂) (and_left whole.right end h₃)
-      (and_right whole.right end h₃)
+      (leb-true _ _ (and_right (leb w.filled (length store)) (leb w.low (count p)) i₁)) (and_left (record_right w) _ h) (and_left clear _ h₂) end.0 end.1 end.2
     where
-      from_pass : w.used ≤ length list → w.filled ≤ length store → w.low ≤ count p → record_right w ≡ true → every is_zero (drop w.filled store) ≡ true → whole.right ≡ true
-          → pass_right size w whole p (length list) (length store) ≡ true → Clauses size w list store p
-      from_pass used_in fits low_in r zs wr st =
-          let y = passed_all b p (begun sep) es in
+      from_pass : w.used ≤ length list → w.filled ≤ length store → w.low ≤ count p → record_right w ≡ true → every is_zero (drop w.filled store) ≡ true
+          → (z : Pass) → whole ≡ Some z → pass_right size w z p (length list) (length store) ≡ true → Clauses size w list store p
+      from_pass used_in fits low_in r zs z wr st =
+          option_and_then_some (λ y. passed_all b p y (drop w.used list)) (passed_all b p (begun sep) es) z (sym the_whole ∙ wr) (λ y first others.
           let long : length es ≡ w.used = length-take-le w.used list used_in in
-          let split : (passed_all b p (begun sep) (es ++ drop w.used list)).right ≡ true = rw (take-append-drop w.used list) wr in
-          let y-right : y.right ≡ true = right_before b p (begun sep) es (drop w.used list) split in
-          let walk = walked b p (begun sep) es refl (omega (arith, long)) y-right in
+          let walk = walked b p (begun sep) y es (omega (arith, long)) first in
           let c : ComeTo fits low_in used_in y = come b p size refl store fits low_in (base_laid size q p g) (base_rises size q p g) (base_fitting size q p g) walk in
-          let behind : (passed_all b p y (drop w.used list)).right ≡ true = rw (← the_whole) wr in
-          let bl = passed_blanks b p y (drop w.used list) y-right (omega (arith, c.seen, long)) behind in
-          let same : whole ≡ y = the_whole ∙ bl.1 in
-          clauses fits low_in used_in y c bl.0 zs r (subst (λ (x : Pass). pass_right size w x p (length list) (length store) ≡ true) same st)
+          let bl = cond_some (every is_blank (drop w.used list)) y z (sym (blanks_pass b p y (omega (arith, c.seen, long)) (drop w.used list)) ∙ others) in
+          clauses fits low_in used_in y c bl.0 zs r (subst (λ (x : Pass). pass_right size w x p (length list) (length store) ≡ true) (sym bl.1) st))
 
   by_pass : Clauses size w list store p → sound_by size w list store p ≡ true
   unfolding sound_by entries_sound record_right
@@ -419,15 +425,14 @@ module _ (size : ℕ) (q : PageSize size) (w : Work) (list : List Entry) (store 
       let found = to_walk b p size refl store fits low_in (base_laid size q p g) (base_rises size q p g) (base_fitting size q p g) (begun sep) shapes (and_left (placed w.filled 0 es) _ laid) fitting rising in
       let long : length es ≡ w.used = length-take-le w.used list used_in in
       let c : ComeTo fits low_in used_in found.0 = come b p size refl store fits low_in (base_laid size q p g) (base_rises size q p g) (base_fitting size q p g) found.1 in
-      let is = walk_is_the_pass b p found.1 refl (omega (arith, long)) in
-      let same : whole ≡ found.0 =
-      the_whole ∙ ap (λ (x : Pass). passed_all b p x (drop w.used list)) is.0 ∙ blanks_pass b p found.0 (drop w.used list) is.1 (omega (arith, c.seen, long)) blanks in
+      let is : passed_all b p (begun sep) es ≡ Some found.0 = walk_is_the_pass b p found.1 (omega (arith, long)) in
+      let same : whole ≡ Some found.0 =
+      the_whole ∙ ap (option_and_then (λ y. passed_all b p y (drop w.used list))) is ∙ blanks_pass b p found.0 (omega (arith, c.seen, long)) (drop w.used list) ∙ ap (λ (t : Bool). cond t (Some found.0) None) blanks in
       let filled : w.filled ≡ found.0.end = ends_once w.filled found.0.end 0 shapes (and_left (placed w.filled 0 es) _ laid) c.ends in
       let marks = and_both k.known_turn_lem (and_both k.known_flags_lem (and_both k.last_below_lem k.cutoff_right_lem)) in
       and_both (and_both marks (and_both (and_both k.floor_above_lem k.floor_at_turn_lem) k.absent_zero_lem))
       (and_both (and_both (le-leb w.used (length list) used_in) (and_both (le-leb w.filled (length store) fits) (le-leb w.low (count p) low_in)))
-      (and_both (and_right (placed w.filled 0 es) (every is_zero (drop w.filled store)) laid)
-      (rw same (and_both is.1 (pass_right_of fits low_in used_in found.0 c filled k)))))
+      (and_both (and_right (placed w.filled 0 es) (every is_zero (drop w.filled store)) laid) (ap settled same ∙ pass_right_of fits low_in used_in found.0 c filled k)))
 
   pub the_pass_decides : sound_by size w list store p ≡ sound size w list store p
   the_pass_decides =

@@ -2,13 +2,13 @@
 use mathlib.Core.Path.{◌≡◌, refl, sym, ◌∙◌}
 use mathlib.Core.Bool.{Bool, true, false, not, ◌&&◌, cond}
 use mathlib.Core.List.{List, []}
-use Prim.Native.Nat.{ℕ, ◌+◌, ◌-◌, ◌/◌, ◌≤◌}
+use Prim.Native.Nat.{ℕ, ◌+◌, ◌≤◌}
 use native.Mathlib.Omega.{arith}
 use lib.Dec.{eqb, leb}
 use lib.ListN.{length}
 use borrow.Author.Tests.{eq-eqb, ne_eqb, eqb-true, eqb-false, leb-true, not-true, not-false}
 use Rattle.refusal.specs.Refusal.{accepted, room_length, out_of_turn, unsound}
-use Rattle.leaf_node.specs.Limits.{PageSize, record_limit, body_limit}
+use Rattle.leaf_node.specs.Limits.{PageSize, record_limit}
 use Rattle.leaf_model.proofs.Tests.{and_left, and_right}
 use Rattle.leaf_work.specs.declared.Work.{Work}
 use Rattle.leaf_work.specs.declared.Entry.{Entry}
@@ -22,10 +22,6 @@ use Rattle.leaf_check.proofs.Decided.{the_pass_decides}
 
 -- ---- No. 7
 
-pub the_numbers_decide : (size entries bytes : ℕ) → (leb ((size - 2) / 34 + 1) entries && leb entries 4096 && leb size bytes && leb bytes 65536) ≡ room_right size entries bytes
-unfolding record_limit body_limit
-the_numbers_decide size entries bytes = refl
-
 module _ (size entries bytes : ℕ) (t : Bool) (e : t ≡ room_right size entries bytes) (h : not t ≡ false) where
   right : room_right size entries bytes ≡ true
   right = rw (← e) (not-false t h)
@@ -38,21 +34,6 @@ module _ (size entries bytes : ℕ) (t : Bool) (e : t ≡ room_right size entrie
       leb-true entries most_entries (and_right (leb (record_limit size + 1) entries) _
       (and_left (leb (record_limit size + 1) entries && leb entries most_entries) _
       (and_left (leb (record_limit size + 1) entries && leb entries most_entries && leb size bytes) _ right)))
-
--- ---- Nos. 1 to 6
-
-pub no_page_number : (size : ℕ) (w : Work) (page : List ℕ) (t : Bool) → t ≡ reads_base w → not t ≡ true → 0 ≡ lent_page_verdict size w page
-no_page_number size w page t e h = rw (← e, not-true t h)
-
-pub an_ignored_page : (w : Work) (page p : List ℕ) (t : Bool) → t ≡ reads_base w → not t ≡ true → p ≡ [] → p ≡ regarded w page
-an_ignored_page w page p t e h k = rw (← e, not-true t h, k)
-
-module _ (size : ℕ) (w : Work) (page : List ℕ) (t : Bool) (e : t ≡ reads_base w) (h : not t ≡ false) where
-  pub the_page_number : (v : ℕ) → v ≡ keys_verdict size page w.latest (cutoff_of w) → v ≡ lent_page_verdict size w page
-  the_page_number v f = rw (← e, not-false t h) f
-
-  pub a_read_page : (p : List ℕ) → p ≡ page → p ≡ regarded w page
-  a_read_page p k = rw (← e, not-false t h) k
 
 -- ---- Nos. 1 to 8
 
@@ -82,23 +63,6 @@ module _ (size : ℕ) (w : Work) (list : List Entry) (store page : List ℕ) (v 
         pub all_passes : not s ≡ false → accepted ≡ lent_verdict size w list store page
         unfolding lent_verdict
         all_passes i = rw (← e, eq-eqb v 0 z, first, ← f, not-false t h, ← k, ← g, not-false s i)
-
--- ---- Nos. 7 to 9 of a call on a work that isn't open
-
-module _ (size : ℕ) (w : Work) (list : List Entry) (store : List ℕ) (t : Bool) (e : t ≡ room_right size (length list) (length store)) where
-  pub a_closed_call_wants_room : not t ≡ true → room_length ≡ closed_verdict size w list store accepted
-  a_closed_call_wants_room h = rw (← e, not-true t h)
-
-  module _ (h : not t ≡ false) (o : Bool) (k : o ≡ is_open w) where
-    pub an_open_work_is_out_of_turn : o ≡ true → out_of_turn ≡ closed_verdict size w list store accepted
-    an_open_work_is_out_of_turn i = rw (← e, not-false t h, ← k, i)
-
-    module _ (i : o ≡ false) (p : List ℕ) (l : p ≡ []) (s : Bool) (f : s ≡ sound size w list store p) where
-      pub an_unsound_work_is_refused : not s ≡ true → unsound ≡ closed_verdict size w list store accepted
-      an_unsound_work_is_refused j = rw (← e, not-false t h, ← k, i, ← l, ← f, not-true s j)
-
-      pub a_closed_work_is_accepted : not s ≡ false → accepted ≡ closed_verdict size w list store accepted
-      a_closed_work_is_accepted j = rw (← e, not-false t h, ← k, i, ← l, ← f, not-false s j)
 
 pub nothing_is_regarded : (size : ℕ) (p : List ℕ) → p ≡ [] → Regardable size p
 nothing_is_regarded size p e = rw e (record { good = λ h. absurd (omega (arith, h)) })

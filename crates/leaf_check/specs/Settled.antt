@@ -1,6 +1,7 @@
 -- Soundness as the code tests it: the work record alone, the pass over the entries, then what they come to. `proofs/Decided.antt` shows that
 -- this is `sound` of leaf_work, which is what document 01 asks.
 use Rattle.std.specs.Prelude.{Bool, true, false, not, ◌&&◌, ◌||◌, List, ℕ, ◌+◌, ◌-◌, ◌*◌, ◌<◌, eqb, leb, ltb, length, drop}
+use Rattle.std.specs.Option.{option_map_or}
 use Rattle.leaf_node.specs.Limits.{value_limit, merge_below}
 use Rattle.leaf_node.specs.Page.{count, key_at, values_size}
 use Rattle.leaf_node.specs.Good.{Good}
@@ -67,8 +68,7 @@ within w entries bytes n = leb w.used entries && (leb w.filled bytes && leb w.lo
 -- the entries one by one, and what they come to
 unfoldable pub entries_sound : ℕ → Work → List Entry → List ℕ → ℕ → Bool
 entries_sound size w list page bytes =
-    (passed_all (bounds_of size w) page (begun (separator_of w)) list).right
-    && pass_right size w (passed_all (bounds_of size w) page (begun (separator_of w)) list) page (length list) bytes
+    option_map_or (λ z. pass_right size w z page (length list) bytes) (passed_all (bounds_of size w) page (begun (separator_of w)) list) false
 
 unfoldable pub sound_by : ℕ → Work → List Entry → List ℕ → List ℕ → Bool
 sound_by size w list store page =

@@ -4,7 +4,6 @@
 ghost use Rattle.std.specs.Prelude.{◌≡◌, ◌&&◌, ◌||◌, ◌≤◌, ◌<◌, length, IfOk};
 ghost use Rattle.refusal.specs.Refusal.{accepted};
 ghost use Rattle.refusal.specs.Numbers.{number_of};
-ghost use Rattle.leaf_node.specs.Limits.{PageSize};
 ghost use Rattle.leaf_node.specs.Page.{count};
 ghost use Rattle.leaf_model.specs.Work.{above_last, below_cutoff};
 ghost use Rattle.leaf_work.specs.Tests.{implies, is_zero};
@@ -16,9 +15,9 @@ ghost use Rattle.leaf_check.specs.Settled.{Regardable, bounds_of, listed_right, 
 
 use bit_ops::less;
 use leaf_base::{MOST_ENTRIES, MOST_STORE_BYTES, keys_verdict};
-use leaf_node::LeafNode;
+use leaf_node::{LeafNode, Size};
 use leaf_pass::{Bounds, Pass, is_behind, is_zero_key, pass_list, same_key, zeros_from};
-use leaf_work::{Entry, Work, is_below};
+use leaf_work::{Entry, Room, Work, is_below};
 use refusal::Refusal;
 
 // ---- small tests
@@ -113,19 +112,19 @@ fn listed_right(work: Work, pass: Pass) -> bool
 }
 
 // Whether a waiting work has inserts alone, override, cutoff, and a body that asks for a merge.
-fn waiting_fits(work: Work, pass: Pass, bounds: Bounds, size: usize) -> bool
-    requires { (Small bounds pass) × (bounds.used ≤ 4096) × (PageSize size) }
-    ensures { result ≡ waiting_fits size work pass }
+fn waiting_fits(work: Work, pass: Pass, bounds: Bounds, size: Size) -> bool
+    requires { (Small bounds pass) × (bounds.used ≤ 4096) }
+    ensures { result ≡ waiting_fits size.bytes work pass }
 {
     let body = 34 * pass.count + pass.bytes;
     (pass.inserts == work.used)
-        & ((work.over != 0) & ((work.cut != 0) & ((0 < body) & (body < (size - 2) / 2))))
+        & ((work.over != 0) & ((work.cut != 0) & ((0 < body) & (body < size.merge_below()))))
 }
 
 // Whether override, waiting and done have what they must; the base has n records.
-fn turn_right(work: Work, pass: Pass, bounds: Bounds, n: usize, size: usize) -> bool
-    requires { (Small bounds pass) × (bounds.used ≤ 4096) × (PageSize size) }
-    ensures { result ≡ turn_right size work pass n }
+fn turn_right(work: Work, pass: Pass, bounds: Bounds, n: usize, size: Size) -> bool
+    requires { (Small bounds pass) × (bounds.used ≤ 4096) }
+    ensures { result ≡ turn_right size.bytes work pass n }
 {
     let over = implied(work.over != 0, 0 < pass.inserts);
     let waiting = implied(work.is_waiting(), waiting_fits(work, pass, bounds, size));
@@ -134,19 +133,12 @@ fn turn_right(work: Work, pass: Pass, bounds: Bounds, n: usize, size: usize) -> 
 }
 
 // Whether there is room for what is pending.
-fn room_for(
-    work: Work,
-    pass: Pass,
-    bounds: Bounds,
-    node: LeafNode,
-    entries: usize,
-    bytes: usize,
-) -> bool
+fn room_for(work: Work, pass: Pass, bounds: Bounds, node: LeafNode, room: Room) -> bool
     requires { (Seeing bounds node.page.now node.n) × (Small bounds pass) × (work.low ≡ bounds.low) }
-    ensures { result ≡ room_for work pass node.entry.page.now entries bytes }
+    ensures { result ≡ room_for work pass node.entry.page.now room.entries room.bytes }
 {
     let rest = node.size_between(work.low, node.n);
-    (pass.count + (node.n - work.low) <= entries) & (pass.bytes + rest <= bytes)
+    (pass.count + (node.n - work.low) <= room.entries) & (pass.bytes + rest <= room.bytes)
 }
 
 // Whether the last listed key is below the cutoff.
@@ -175,29 +167,27 @@ fn is_pass_right(
     pass: Pass,
     bounds: Bounds,
     node: LeafNode,
-    entries: usize,
-    bytes: usize,
-    size: usize,
+    room: Room,
+    size: Size,
 ) -> bool
-    requires { (Seeing bounds node.page.now node.n) × (Small bounds pass) × (work.low ≡ bounds.low) × (PageSize size) }
-    ensures { result ≡ pass_right size work pass node.entry.page.now entries bytes }
+    requires { (Seeing bounds node.page.now node.n) × (Small bounds pass) × (work.low ≡ bounds.low) }
+    ensures { result ≡ pass_right size.bytes work pass node.entry.page.now room.entries room.bytes }
 {
     let turn = turn_right(work, pass, bounds, node.n, size);
-    let room = room_for(work, pass, bounds, node, entries, bytes);
+    let room = room_for(work, pass, bounds, node, room);
     listed_right(work, pass) & (turn & (room & rest_right(work, pass, bounds, node)))
 }
 
 // ---- all of it
 
-fn bounds_of(work: Work, size: usize) -> Bounds
-    requires { PageSize size }
-    ensures { result ≡ bounds_of size work }
+fn bounds_of(work: Work, size: Size) -> Bounds
+    ensures { result ≡ bounds_of size.bytes work }
 {
     Bounds {
         used: work.used,
         filled: work.filled,
         low: work.low,
-        most: (size - 2) / 3 - 32,
+        most: size.value_limit(),
     }
 }
 
@@ -205,7 +195,6 @@ fn begin(work: Work) -> Pass
     ensures { result ≡ begun (separator_of work) }
 {
     Pass {
-        right: true,
         seen: 0,
         inserts: 0,
         end: 0,
@@ -216,22 +205,21 @@ fn begin(work: Work) -> Pass
 }
 
 // Whether the entries are right one by one, and come to what the work record says.
-fn entries_sound(work: Work, list: &[Entry], node: LeafNode, bytes: usize, size: usize) -> bool
-    requires { (PageSize size) × (Seeing (bounds_of size work) node.page.now node.n) }
-    ensures { result ≡ entries_sound size work list.now node.entry.page.now bytes }
+fn entries_sound(work: Work, list: &[Entry], store: &[u8], node: LeafNode, size: Size) -> bool
+    requires { Seeing (bounds_of size.bytes work) node.page.now node.n }
+    ensures { result ≡ entries_sound size.bytes work list.now node.entry.page.now (length store.now) }
 {
     let bounds = bounds_of(work, size);
-    let pass = pass_list(bounds, begin(work), list, node);
-    if !pass.right {
+    let Some(pass) = pass_list(bounds, begin(work), list, node) else {
         return false;
-    }
-    is_pass_right(work, pass, bounds, node, list.len(), bytes, size)
+    };
+    is_pass_right(work, pass, bounds, node, Room::of(list, store), size)
 }
 
 // Whether a work is sound, with the page as the work regards it.
-pub fn is_sound(work: Work, list: &[Entry], store: &[u8], node: LeafNode, size: usize) -> bool
-    requires { (PageSize size) × (Regardable size node.page.now) × (length list.now ≤ 4096) × (length store.now ≤ 65536) }
-    ensures { result ≡ sound size work list.now store.now node.entry.page.now }
+pub fn is_sound(work: Work, list: &[Entry], store: &[u8], node: LeafNode, size: Size) -> bool
+    requires { (Regardable size.bytes node.page.now) × (length list.now ≤ 4096) × (length store.now ≤ 65536) }
+    ensures { result ≡ sound size.bytes work list.now store.now node.entry.page.now }
 {
     if !record_right(work) {
         return false;
@@ -242,15 +230,14 @@ pub fn is_sound(work: Work, list: &[Entry], store: &[u8], node: LeafNode, size: 
     if !zeros_from(store, work.filled) {
         return false;
     }
-    entries_sound(work, list, node, store.len(), size)
+    entries_sound(work, list, store, node, size)
 }
 
 // ---- Nos. 1 to 8
 
 // The lent page as the work regards it, Nos. 1 to 6: one that is ignored has no records.
-fn regarded_base<'a>(work: &Work, page: &'a [u8], size: usize) -> Result<LeafNode<'a>, Refusal>
-    requires { PageSize size }
-    ensures number { number_of result ≡ lent_page_verdict size work.now page.now }
+fn regarded_base<'a>(work: &Work, page: &'a [u8], size: Size) -> Result<LeafNode<'a>, Refusal>
+    ensures number { number_of result ≡ lent_page_verdict size.bytes work.now page.now }
     ensures base { IfOk result (λ node. node.page.now ≡ regarded work.now page.now) }
 {
     if !work.reads_base() {
@@ -260,12 +247,11 @@ fn regarded_base<'a>(work: &Work, page: &'a [u8], size: usize) -> Result<LeafNod
 }
 
 // Whether list and store have as many entries and bytes as a work needs, and no more than it takes.
-pub fn room_right(entries: usize, bytes: usize, size: usize) -> bool
-    requires { PageSize size }
-    ensures { result ≡ room_right size entries bytes }
+pub fn room_right(room: Room, size: Size) -> bool
+    ensures { result ≡ room_right size.bytes room.entries room.bytes }
 {
-    let least = (size - 2) / 34 + 1;
-    (least <= entries) & (entries <= MOST_ENTRIES) & (size <= bytes) & (bytes <= MOST_STORE_BYTES)
+    let entries = (size.record_limit() < room.entries) & (room.entries <= MOST_ENTRIES);
+    entries & (size.bytes <= room.bytes) & (room.bytes <= MOST_STORE_BYTES)
 }
 
 // What is lent to a call, Nos. 1 to 8: the base as the work regards it.
@@ -274,14 +260,13 @@ pub fn lent_base<'a>(
     list: &[Entry],
     store: &[u8],
     page: &'a [u8],
-    size: usize,
+    size: Size,
 ) -> Result<LeafNode<'a>, Refusal>
-    requires { PageSize size }
-    ensures number { number_of result ≡ lent_verdict size work.now list.now store.now page.now }
+    ensures number { number_of result ≡ lent_verdict size.bytes work.now list.now store.now page.now }
     ensures base { IfOk result (λ node. node.page.now ≡ regarded work.now page.now) }
 {
     let node = regarded_base(work, page, size)?;
-    if !room_right(list.len(), store.len(), size) {
+    if !room_right(Room::of(list, store), size) {
         return Err(Refusal::RoomLength);
     }
     if !is_sound(*work, list, store, node, size) {
@@ -291,11 +276,10 @@ pub fn lent_base<'a>(
 }
 
 // Nos. 7 to 9 of a call on a work that isn't open: an open one is refused without testing its soundness.
-pub fn closed_verdict(work: &Work, list: &[Entry], store: &[u8], size: usize) -> Result<(), Refusal>
-    requires { PageSize size }
-    ensures { number_of result ≡ closed_verdict size work.now list.now store.now accepted }
+pub fn closed_verdict(work: &Work, list: &[Entry], store: &[u8], size: Size) -> Result<(), Refusal>
+    ensures { number_of result ≡ closed_verdict size.bytes work.now list.now store.now accepted }
 {
-    if !room_right(list.len(), store.len(), size) {
+    if !room_right(Room::of(list, store), size) {
         return Err(Refusal::RoomLength);
     }
     if work.is_open() {

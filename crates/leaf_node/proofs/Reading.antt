@@ -15,7 +15,7 @@ use Rattle.leaf_node.specs.Record.{total}
 use Rattle.leaf_node.specs.Page.{word, count, pointer, number_at, offset_at, flag_at, start, length_at, values_size, records_between, run}
 use Rattle.leaf_node.specs.Good.{KeysRise, Good, page_verdict}
 use Rattle.leaf_node.specs.Cell.{cell_at}
-use Rattle.leaf_node.specs.Steps.{Readable, Laid, Sorted, Counted}
+use Rattle.leaf_node.specs.Steps.{Laid, Sorted, Counted}
 use Rattle.leaf_node.specs.declared.Cell.{Cell}
 use Rattle.leaf_node.proofs.Verdicts.{accepted_pages_are_the_good_ones}
 
@@ -73,9 +73,6 @@ module _ (size : ℕ) (p : List ℕ) (s : PageSize size) (g : Good size p) where
   pub good_pages_rise : Sorted p (count p)
   good_pages_rise = record { counted = refl; inside = pointers_inside; rise = g.keys }
 
-  pub good_pages_are_readable : (i : ℕ) → i < count p → Readable p i
-  good_pages_are_readable i l = record { inside = pointers_inside; there = l; step = starts_in_order i l }
-
 -- ---- a page that was checked
 
 module _ (size : ℕ) (p : List ℕ) (v : ℕ) (e : v ≡ page_verdict size p) (z : v ≡ 0) (s : PageSize size) where
@@ -98,24 +95,6 @@ module _ (size : ℕ) (p : List ℕ) (v : ℕ) (e : v ≡ page_verdict size p) (
   checked_counted n q = record { counted = q; laid = λ h. checked_laid n q; short = omega (arith, checked.sized, s.most) }
 
 -- ---- a page with its records
-
-module _ (p : List ℕ) (n : ℕ) (c : Counted p n) where
-  pub counted_laid : (i : ℕ) → i < n → Laid p n
-  counted_laid i h = c.laid (omega arith)
-
-  pub counted_readable : (i : ℕ) → i < n → Readable p i
-  counted_readable i h =
-      let l = counted_laid i h in
-      record { inside = omega (arith, l.inside, c.counted); there = omega (arith, c.counted); step = l.steps i h }
-
-  pub counted_pointer : (i : ℕ) → i < n → pointer (i + 1) ≤ length p
-  counted_pointer i h = omega (arith, (counted_laid i h).inside)
-
-  pub counted_some : (from to : ℕ) → from ≤ to → (from ≡ to → ⊥) → to ≤ n → Laid p n
-  counted_some from to l e h = c.laid (omega arith)
-
-  pub counted_sorted : (from : ℕ) → from < n → KeysRise p → Sorted p n
-  counted_sorted from h r = record { counted = c.counted; inside = (counted_laid from h).inside; rise = r }
 
 pub nothing_between : (p : List ℕ) (from to : ℕ) → from ≡ to → 0 ≡ values_size p from to
 unfolding values_size records_between run total

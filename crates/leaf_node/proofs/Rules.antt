@@ -1,5 +1,5 @@
 -- The rules of a good page: each test says what its sentence says, and what the loops of the check find. Assumes nothing.
-use Prim.Native.Nat.{ℕ, zero, suc, ◌+◌, ◌-◌, ◌*◌, ◌/◌, ◌≤◌, ◌<◌}
+use Prim.Native.Nat.{ℕ, zero, suc, ◌+◌, ◌-◌, ◌*◌, ◌≤◌, ◌<◌}
 use mathlib.Core.Path.{◌≡◌, refl, sym, ap, ◌∙◌}
 use mathlib.Core.Logic.{⊎_elim}
 use mathlib.Core.Bool.{Bool, true, false, not, ◌&&◌, ◌||◌, or-true}
@@ -12,7 +12,7 @@ use lib.Dec.{leb, ltb}
 use lib.ListN.{length}
 use borrow.Author.Tests.{lt-ltb, le-leb, leb-true, ltb-true, not-true, not-false}
 use Rattle.bit_ops.specs.Key.{num, lt_key}
-use Rattle.leaf_node.specs.Limits.{body_limit, value_limit}
+use Rattle.leaf_node.specs.Limits.{value_limit}
 use Rattle.leaf_node.specs.Page.{count, pointer, key_at, offset_at, start, length_at}
 use Rattle.leaf_node.specs.Good.{OffsetsRight, ValuesFit, KeysRise, all_below, offset_step, offset_inside, offsets_right, value_fits, values_fit, key_step, keys_rise}
 
@@ -107,17 +107,6 @@ pub record OffsetsSeen (p : List ℕ) (n i low : ℕ) : Type 0 where
   pub then : (k : ℕ) → i ≡ k + 1 → low ≡ offset_at p k
 
 module _ (p : List ℕ) (n : ℕ) where
-  pub offsets_start : OffsetsSeen p n 0 (pointer n)
-  offsets_start =
-      record {
-        within = omega arith;
-        never_fall = λ k l. absurd (omega arith);
-        first = λ l. absurd (omega arith);
-        none_passes = λ k l. absurd (omega arith);
-        at_first = λ e. refl;
-        then = λ k e. absurd (omega arith);
-      }
-
   module _ (i low : ℕ) (s : OffsetsSeen p n i low) where
     pub offsets_done : n ≡ count p → n ≤ i → true ≡ offsets_right p
     offsets_done e h =
@@ -147,36 +136,16 @@ module _ (p : List ℕ) (n : ℕ) where
       pub offsets_past : n ≡ count p → length p < offset → false ≡ offsets_right p
       offsets_past e h = sym (fails _ (λ t. let a = (offsets_right_rule p t).none_passes i (omega arith) in omega arith))
 
-      pub offsets_more : low ≤ offset → offset ≤ length p → OffsetsSeen p n (i + 1) offset
-      offsets_more h m =
-          record {
-            within = omega arith;
-            never_fall = λ k g. ⊎_elim (λ (y : k + 1 ≡ i).
-                let a = s.then k (sym y) in
-                let o : offset_at p (k + 1) ≡ offset_at p i = ap (offset_at p) y in
-                omega arith) (λ (y : k + 1 < i). s.never_fall k y) (eq-or-lt_of_le {n = k + 1} {m = i} (omega arith));
-            first = λ g. first_now i refl;
-            none_passes = λ k g. ⊎_elim (λ (y : k ≡ i). rw (y, ← q) m) (λ (y : k < i). s.none_passes k y) (eq-or-lt_of_le {n = k} {m = i} (omega arith));
-            at_first = λ z. absurd (omega arith);
-            then = λ k y. q ∙ ap (offset_at p) (omega arith);
-          }
-        where
-          first_now : (k : ℕ) → i ≡ k → pointer n ≤ offset_at p 0
-          first_now zero z =
-              let a = s.at_first z in
-              let o : offset ≡ offset_at p 0 = q ∙ ap (offset_at p) z in
-              omega arith
-          first_now (suc k) z = s.first (omega arith)
-
-pub values_long : (size : ℕ) (p : List ℕ) (n : ℕ) → n ≡ count p → (i s t : ℕ) → i < n → s ≡ start p i → t ≡ start p (i + 1) → s + ((size - 2) / 3 - 32) < t → false ≡ values_fit size p
-unfolding length_at value_limit body_limit
-values_long size p n e i s t l q r h =
+pub values_long : (size : ℕ) (p : List ℕ) (n : ℕ) → n ≡ count p → (most : ℕ) → most ≡ value_limit size → (i s t : ℕ) → i < n → s ≡ start p i → t ≡ start p (i + 1) → s + most < t
+    → false ≡ values_fit size p
+unfolding length_at
+values_long size p n e most m i s t l q r h =
     sym (fails _ (λ z. let a = values_fit_rule size p z i (omega arith) in omega arith))
 
-pub values_more : (size : ℕ) (p : List ℕ) (i s t : ℕ) → all_below i (value_fits size p) ≡ true → s ≡ start p i → t ≡ start p (i + 1) → t ≤ s + ((size - 2) / 3 - 32)
+pub values_more : (size : ℕ) (p : List ℕ) (most : ℕ) → most ≡ value_limit size → (i s t : ℕ) → all_below i (value_fits size p) ≡ true → s ≡ start p i → t ≡ start p (i + 1) → t ≤ s + most
     → all_below (i + 1) (value_fits size p) ≡ true
-unfolding value_fits length_at value_limit body_limit
-values_more size p i s t a q r h = all_more i (value_fits size p) a (le-leb (length_at p i) (value_limit size) (omega arith))
+unfolding value_fits length_at
+values_more size p most m i s t a q r h = all_more i (value_fits size p) a (le-leb (length_at p i) (value_limit size) (omega arith))
 
 pub values_done : (size : ℕ) (p : List ℕ) (n : ℕ) → n ≡ count p → (i : ℕ) → i ≤ n → n ≤ i → all_below i (value_fits size p) ≡ true → true ≡ values_fit size p
 unfolding values_fit

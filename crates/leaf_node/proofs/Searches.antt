@@ -76,10 +76,6 @@ pub record Bracket (p : List ℕ) (n from : ℕ) (k : List ℕ) (lo hi : ℕ) : 
   pub below : (j : ℕ) → from ≤ j → j < lo → num (key_at p j) < num k
   pub above : (j : ℕ) → hi ≤ j → j < n → num k ≤ num (key_at p j)
 
-pub bracket_start : (p : List ℕ) (n from : ℕ) (k : List ℕ) → from ≤ n → Bracket p n from k from n
-bracket_start p n from k h =
-    record { low = omega arith; order = h; within = omega arith; below = λ j a b. absurd (omega arith); above = λ j a b. absurd (omega arith) }
-
 module _ (p : List ℕ) (n from : ℕ) (k : List ℕ) (lo hi : ℕ) (b : Bracket p n from k lo hi) where
   pub bracket_end : hi ≤ lo → lo ≡ place_from p (n - from) from k
   bracket_end h =

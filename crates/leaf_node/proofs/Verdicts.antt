@@ -1,5 +1,5 @@
 -- Each of the numbers 0 to 5 is given exactly where its row of document 01 says so, "several apply: the lowest number". Assumes nothing.
-use Prim.Native.Nat.{ℕ, ◌-◌, ◌/◌, ◌≤◌, ◌<◌}
+use Prim.Native.Nat.{ℕ, ◌≤◌, ◌<◌}
 use mathlib.Core.Path.{◌≡◌, refl, sym}
 use mathlib.Core.Logic.{◌↔◌}
 use mathlib.Core.Bool.{Bool, true, false, not, cond}
@@ -8,7 +8,7 @@ use native.Mathlib.Omega.{arith}
 use lib.Dec.{leb, eqb}
 use lib.ListN.{length}
 use borrow.Author.Tests.{lt-leb, le-leb, leb-true, leb-false, eq-eqb, ne_eqb, eqb-true, eqb-false, not-true, not-false}
-use Rattle.leaf_node.specs.Limits.{body_limit, record_limit}
+use Rattle.leaf_node.specs.Limits.{record_limit}
 use Rattle.leaf_node.specs.Page.{count}
 use Rattle.leaf_node.specs.Good.{OffsetsRight, ValuesFit, KeysRise, Good, offsets_right, values_fit, keys_rise, page_verdict}
 use Rattle.leaf_node.proofs.Rules.{fails, true_is_not_false, offsets_right_test, offsets_right_rule, values_fit_test, values_fit_rule, keys_rise_test, keys_rise_rule}
@@ -72,31 +72,31 @@ module _ (size : ℕ) (p : List ℕ) where
   unfolding page_verdict
   verdict_1 h = simp (ne_eqb (length p) size h)
 
-  module _ (sized : length p ≡ size) (n : ℕ) (e : n ≡ count p) where
-    pub verdict_2 : (size - 2) / 34 < n → 2 ≡ page_verdict size p
-    unfolding page_verdict record_limit body_limit
-    verdict_2 h = simp (eq-eqb (length p) size sized, lt-leb (count p) ((size - 2) / 34) (omega arith))
+  module _ (sized : length p ≡ size) (n : ℕ) (e : n ≡ count p) (most : ℕ) (q : most ≡ record_limit size) where
+    pub verdict_2 : most < n → 2 ≡ page_verdict size p
+    unfolding page_verdict
+    verdict_2 h = simp (eq-eqb (length p) size sized, lt-leb (count p) (record_limit size) (omega arith))
 
-    module _ (few : n ≤ (size - 2) / 34) (c : Bool) (q₃ : c ≡ offsets_right p) where
+    module _ (few : n ≤ most) (c : Bool) (q₃ : c ≡ offsets_right p) where
       pub verdict_3 : not c ≡ true → 3 ≡ page_verdict size p
-      unfolding page_verdict record_limit body_limit
-      verdict_3 h = simp (eq-eqb (length p) size sized, le-leb (count p) ((size - 2) / 34) (omega arith), ← q₃, not-true c h)
+      unfolding page_verdict
+      verdict_3 h = simp (eq-eqb (length p) size sized, le-leb (count p) (record_limit size) (omega arith), ← q₃, not-true c h)
 
       module _ (h₃ : not c ≡ false) (d : Bool) (q₄ : d ≡ values_fit size p) where
         pub verdict_4 : not d ≡ true → 4 ≡ page_verdict size p
-        unfolding page_verdict record_limit body_limit
-        verdict_4 h = simp (eq-eqb (length p) size sized, le-leb (count p) ((size - 2) / 34) (omega arith), ← q₃, not-false c h₃, ← q₄, not-true d h)
+        unfolding page_verdict
+        verdict_4 h = simp (eq-eqb (length p) size sized, le-leb (count p) (record_limit size) (omega arith), ← q₃, not-false c h₃, ← q₄, not-true d h)
 
         module _ (h₄ : not d ≡ false) (b : Bool) (q₅ : b ≡ keys_rise p) where
           pub verdict_5 : not b ≡ true → 5 ≡ page_verdict size p
-          unfolding page_verdict record_limit body_limit
+          unfolding page_verdict
           verdict_5 h =
-              simp (eq-eqb (length p) size sized, le-leb (count p) ((size - 2) / 34) (omega arith), ← q₃, not-false c h₃, ← q₄, not-false d h₄, ← q₅, not-true b h)
+              simp (eq-eqb (length p) size sized, le-leb (count p) (record_limit size) (omega arith), ← q₃, not-false c h₃, ← q₄, not-false d h₄, ← q₅, not-true b h)
 
           pub verdict_0 : not b ≡ false → 0 ≡ page_verdict size p
-          unfolding page_verdict record_limit body_limit
+          unfolding page_verdict
           verdict_0 h =
-              simp (eq-eqb (length p) size sized, le-leb (count p) ((size - 2) / 34) (omega arith), ← q₃, not-false c h₃, ← q₄, not-false d h₄, ← q₅, not-false b h)
+              simp (eq-eqb (length p) size sized, le-leb (count p) (record_limit size) (omega arith), ← q₃, not-false c h₃, ← q₄, not-false d h₄, ← q₅, not-false b h)
 
   -- ---- the rows of the table
 

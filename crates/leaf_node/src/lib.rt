@@ -15,22 +15,25 @@
 
 ghost use Rattle.std.specs.Prelude.{◌≡◌, ◌+◌, ◌-◌, ◌^◌, ◌≤◌, ◌<◌, length};
 ghost use Rattle.refusal.specs.Numbers.{number_of};
-ghost use Rattle.leaf_node.specs.Limits.{PageSize};
-ghost use Rattle.leaf_node.specs.Page.{word, count, pointer, key_at, number_at, offset_at, flag_at, start, length_at, values_size};
+ghost use Rattle.leaf_node.specs.Page.{word, count, pointer, key_at, number_at, offset_at, start, values_size};
 ghost use Rattle.leaf_node.specs.Good.{offsets_right, values_fit, keys_rise, page_verdict};
 ghost use Rattle.leaf_node.specs.Search.{place_from, search_of};
-ghost use Rattle.leaf_node.specs.Cell.{cell_at};
+ghost use Rattle.leaf_node.specs.Cell.{CellOf};
 ghost use Rattle.leaf_node.specs.Build.{put};
 ghost use Rattle.leaf_node.specs.Steps.{Pointed, Readable, Laid, Sorted};
 
 mod records;
+mod size;
 
 use bit_ops::{bytes_from, less};
 pub use records::LeafNode;
 use refusal::Refusal;
+pub use size::Size;
 
 // The page size of the public calls; every other function takes the size that the page has.
 pub const PAGE_SIZE: usize = 4096;
+
+pub const PAGE: Size = Size { bytes: PAGE_SIZE };
 
 // Where a value lies in its page, and its overflow flag.
 #[derive(Clone, Copy)]
@@ -98,7 +101,7 @@ pub fn key_at(page: &[u8], i: usize) -> &[u8; 32]
 // Value i: offset, length and flag.
 pub fn cell_at(page: &[u8], i: usize) -> Cell
     requires { Readable page.now i }
-    ensures { (result ≡ cell_at page.now i) × (result.offset ≡ start page.now i) × (result.offset + result.len ≡ start page.now (i + 1)) × (result.len ≡ length_at page.now i) × (result.flag ≡ flag_at page.now i) }
+    ensures { CellOf page.now i result }
 {
     let n = count_of(page);
     let from = start_at(page, n, i);
@@ -112,6 +115,8 @@ pub fn cell_at(page: &[u8], i: usize) -> Cell
 }
 
 // ---- the check of a page, rule by rule
+
+// These and the search take a page beside its count: they find out what makes a `LeafNode` of the two, or are bodies of its methods.
 
 // Offsets never fall, the first lies behind the pointers, and none passes the page's end.
 fn offsets_right(page: &[u8], n: usize) -> bool
@@ -133,11 +138,11 @@ fn offsets_right(page: &[u8], n: usize) -> bool
 }
 
 // No value is longer than a page of `size` bytes allows.
-fn values_fit(page: &[u8], n: usize, size: usize) -> bool
-    requires { (Pointed page.now n) × (PageSize size) }
-    ensures { result ≡ values_fit size page.now }
+fn values_fit(page: &[u8], n: usize, size: Size) -> bool
+    requires { Pointed page.now n }
+    ensures { result ≡ values_fit size.bytes page.now }
 {
-    let most = (size - 2) / 3 - 32;
+    let most = size.value_limit();
     for i in 0..n {
         if start_at(page, n, i) + most < start_at(page, n, i + 1) {
             return false;
@@ -159,16 +164,15 @@ fn keys_rise(page: &[u8], n: usize) -> bool
     true
 }
 
-// The lowest refusal that a page earns as one of `size` bytes.
-pub fn verdict(page: &[u8], size: usize) -> Result<(), Refusal>
-    requires { PageSize size }
-    ensures { number_of result ≡ page_verdict size page.now }
+// The lowest refusal that a page earns as one of this size.
+pub fn verdict(page: &[u8], size: Size) -> Result<(), Refusal>
+    ensures { number_of result ≡ page_verdict size.bytes page.now }
 {
-    if page.len() != size {
+    if page.len() != size.bytes {
         return Err(Refusal::PageLength);
     }
     let n = count_of(page);
-    if (size - 2) / 34 < n {
+    if size.record_limit() < n {
         return Err(Refusal::TooManyRecords);
     }
     if !offsets_right(page, n) {
@@ -187,7 +191,7 @@ pub fn verdict(page: &[u8], size: usize) -> Result<(), Refusal>
 pub fn check(page: &[u8]) -> Result<(), Refusal>
     ensures { number_of result ≡ page_verdict 4096 page.now }
 {
-    verdict(page, PAGE_SIZE)
+    verdict(page, PAGE)
 }
 
 // ---- parts of bytes

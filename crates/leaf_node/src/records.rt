@@ -1,14 +1,13 @@
 // A leaf page whose records can be read.
 ghost use Rattle.std.specs.Prelude.{◌≡◌, [], ◌+◌, ◌≤◌, ◌<◌, length, IfOk};
 ghost use Rattle.refusal.specs.Numbers.{number_of};
-ghost use Rattle.leaf_node.specs.Limits.{PageSize};
-ghost use Rattle.leaf_node.specs.Page.{count, key_at, flag_at, start, length_at, values_size};
+ghost use Rattle.leaf_node.specs.Page.{count, key_at, values_size};
 ghost use Rattle.leaf_node.specs.Good.{KeysRise, page_verdict};
 ghost use Rattle.leaf_node.specs.Search.{search_of};
-ghost use Rattle.leaf_node.specs.Cell.{cell_at};
+ghost use Rattle.leaf_node.specs.Cell.{CellOf};
 ghost use Rattle.leaf_node.specs.Steps.{Counted};
 
-use crate::{Cell, cell_at, count_of, key_at, search, size_between, verdict};
+use crate::{Cell, Size, cell_at, count_of, key_at, search, size_between, verdict};
 use refusal::Refusal;
 
 // A page and the number of its records, which all lie in it. A page that is ignored has no bytes and no records.
@@ -20,10 +19,9 @@ pub struct LeafNode<'a> {
 }
 
 impl<'a> LeafNode<'a> {
-    // A page of `size` bytes, checked.
-    pub fn new(page: &'a [u8], size: usize) -> Result<LeafNode<'a>, Refusal>
-        requires { PageSize size }
-        ensures number { number_of result ≡ page_verdict size page.now }
+    // A page of this size, checked.
+    pub fn new(page: &'a [u8], size: Size) -> Result<LeafNode<'a>, Refusal>
+        ensures number { number_of result ≡ page_verdict size.bytes page.now }
         ensures page { IfOk result (λ node. node.page.now ≡ page.now) }
     {
         verdict(page, size)?;
@@ -54,7 +52,7 @@ impl<'a> LeafNode<'a> {
     // Value i: offset, length and flag.
     pub fn cell(self, i: usize) -> Cell
         requires { i < self.n }
-        ensures { (result ≡ cell_at self.entry.page.now i) × (result.offset ≡ start self.entry.page.now i) × (result.offset + result.len ≡ start self.entry.page.now (i + 1)) × (result.len ≡ length_at self.entry.page.now i) × (result.flag ≡ flag_at self.entry.page.now i) }
+        ensures { CellOf self.entry.page.now i result }
     {
         cell_at(self.page, i)
     }

@@ -2,25 +2,26 @@
 use mathlib.Core.Path.{◌≡◌, refl, sym, ap, ◌∙◌}
 use mathlib.Core.Bool.{Bool, true, false, not, ◌&&◌}
 use mathlib.Core.List.{List}
-use Prim.Native.Nat.{ℕ, ◌+◌, ◌-◌, ◌≤◌, ◌<◌}
+use Prim.Native.Nat.{ℕ, ◌-◌, ◌≤◌, ◌<◌}
 use lib.Dec.{eqb, leb, ltb}
+use Rattle.std.specs.Prelude.{Option, Some}
 use native.Mathlib.Omega.{arith}
 use borrow.Author.Tests.{eq-eqb, ne_eqb, eqb-true, eqb-false, ltb-true, leb-true, lt-ltb, le-ltb, not-true, not-false}
 use Rattle.leaf_node.specs.Page.{key_at, values_size}
 use Rattle.leaf_node.proofs.Laying.{start_inside, values_size_is_a_difference}
 use Rattle.leaf_node.specs.Steps.{Laid}
 use Rattle.leaf_model.proofs.Tests.{and_left, and_right}
-use Rattle.bit_ops.specs.Key.{Key, num, lt_key, eq_key}
+use Rattle.bit_ops.specs.Key.{Key, num, eq_key}
 use Rattle.bit_ops.proofs.Order.{equal_numbers_are_equal_keys}
 use Rattle.leaf_model.specs.Work.{zero_key}
 use Rattle.leaf_work.specs.declared.Entry.{Entry}
 use Rattle.leaf_work.specs.Tests.{same_bytes, is_zero}
 use Rattle.leaf_work.specs.Lent.{an_insert}
-use Rattle.leaf_work.specs.Sound.{is_flag, is_blank}
+use Rattle.leaf_work.specs.Sound.{is_flag}
 use Rattle.leaf_work.proofs.Tests.{same_bytes_lem, same_bytes_are_equal}
 use Rattle.leaf_pass.specs.declared.Pass.{Pass}
 use Rattle.leaf_pass.specs.declared.Bounds.{Bounds}
-use Rattle.leaf_pass.specs.Pass.{Seeing, Small, is_behind, insert_right, with_insert, chunk_lies, chunk_right, with_chunk, wrong, insert_passed, chunk_passed, blank_passed, passed_by, passed}
+use Rattle.leaf_pass.specs.Pass.{Seeing, Small, is_behind, insert_right, with_insert, chunk_lies, chunk_right, with_chunk, insert_passed, chunk_passed, blank_passed, passed_by, passed}
 
 -- ---- keys
 
@@ -36,17 +37,7 @@ key_numbers_decide a b r e x y = go (eqb (num a) (num b)) refl
         differ true g = absurd (eqb-false _ _ f (ap num (same_bytes_are_equal a b g)))
         differ false g = refl
 
-pub the_first_may_equal : (n : ℕ) (l k : List ℕ) (r : Bool) → n ≡ 0 → r ≡ lt_key k l → not r ≡ is_behind n l k
-the_first_may_equal n l k r z e = rw (eq-eqb n 0 z, is_behind, e)
-
-pub later_ones_are_above : (n : ℕ) (l k : List ℕ) (r : Bool) → (n ≡ 0 → ⊥) → r ≡ lt_key l k → r ≡ is_behind n l k
-later_ones_are_above n l k r z e = rw (ne_eqb n 0 z, is_behind) e
-
 -- ---- entries
-
-pub blank_by : (it : Entry) (r : Bool) → r ≡ same_bytes it.key zero_key
-    → (eqb it.kind 0 && (eqb it.from 0 && (eqb it.to 0 && (eqb it.sum 0 && (r && eqb it.flag 0))))) ≡ is_blank it
-blank_by it r e = rw e
 
 pub lies_by : (low : ℕ) (it : Entry) (r : Bool) → r ≡ same_bytes it.key zero_key
     → (eqb it.kind 2 && (ltb it.from it.to && (leb it.to low && (r && eqb it.flag 0)))) ≡ chunk_lies low it
@@ -59,11 +50,6 @@ pub insert_by : (b : Bounds) (z : Pass) (it : Entry) (m : ℕ) (s : Bool) → m 
     ≡ insert_right b z it
 unfolding insert_right
 insert_by b z it m s e f = rw (e, f)
-
-pub with_insert_by : (z : Pass) (it : Entry) (m : ℕ) → m ≡ it.to - it.from
-    → ◌≡◌ {A = Pass} (record { right = true; seen = z.seen + 1; inserts = z.inserts + 1; end = it.to; count = z.count + 1; bytes = z.bytes + m; last = it.key })
-    (with_insert z it)
-with_insert_by z it m e = rw e
 
 pub record Lying (low : ℕ) (from to : ℕ) : Type 0 where
   pub some : from < to
@@ -121,112 +107,78 @@ module _ (b : Bounds) (page : List ℕ) (n : ℕ) (it : Entry) (v : Seeing b pag
     unfolding chunk_right
     chunk_by z sum k s f g q = rw (lies, f, q, g)
 
-pub with_chunk_by : (page : List ℕ) (z : Pass) (it : Entry) (k : List ℕ) → k ≡ key_at page (it.to - 1)
-    → ◌≡◌ {A = Pass}
-    (record { right = true; seen = z.seen + 1; inserts = z.inserts; end = z.end; count = z.count + (it.to - it.from); bytes = z.bytes + it.sum; last = k })
-    (with_chunk page z it)
-with_chunk_by page z it k e = rw e
-
 -- ---- one more entry
 
-pub by_tests : (b : Bounds) (page : List ℕ) (z : Pass) (e : Entry) {x y t : Bool} → z.right ≡ x → ltb z.seen b.used ≡ y → an_insert e ≡ t
-    → passed b page z e ≡ passed_by b page z e x y t
+pub by_tests : (b : Bounds) (page : List ℕ) (z : Pass) (e : Entry) {y t : Bool} → ltb z.seen b.used ≡ y → an_insert e ≡ t → passed b page z e ≡ passed_by b page z e y t
 unfolding passed
-by_tests b page z e f g h = λ j. passed_by b page z e (f j) (g j) (h j)
+by_tests b page z e g h = λ j. passed_by b page z e (g j) (h j)
 
-module _ (b : Bounds) (z : Pass) (small : Small b z) where
-  pub wrong_small : (r : Pass) → r ≡ wrong z → Small b r
-  wrong_small r e = rw e (record { seen = small.seen; inserts = small.inserts; count = small.count; bytes = small.bytes })
+module _ (b : Bounds) (z : Pass) (small : Small b z) (it : Entry) where
+  module _ (t : Bool) (e : t ≡ insert_right b z it) (h : t ≡ true) where
+    pub right_insert : (r : Pass) → r ≡ with_insert z it → Some r ≡ insert_passed b z it
+    right_insert r f = rw (← e, h, f)
 
-  module _ (it : Entry) where
-    module _ (t : Bool) (e : t ≡ is_blank it) where
-      pub blank_stays : t ≡ true → z ≡ blank_passed z it
-      blank_stays h = rw (← e, h, blank_passed)
+    pub insert_inside : b.filled ≤ 65536 → it.to ≤ 65536
+    unfolding insert_right
+    insert_inside l = omega (arith, place_of_an_insert b z it (rw (← e) h))
 
-      pub used_behind : (r : Pass) → t ≡ false → r ≡ wrong z → r ≡ blank_passed z it
-      used_behind r h f = rw (← e, h, blank_passed) f
+    pub insert_small : (r : Pass) → r ≡ with_insert z it → z.seen < b.used → b.filled ≤ 65536 → Small b r
+    insert_small r f k l =
+        rw f
+        (record {
+          seen = omega arith;
+          inserts = omega (arith, small.inserts);
+          count = omega (arith, small.count);
+          bytes = omega (arith, small.bytes, insert_inside l);
+        })
 
-    module _ (t : Bool) (e : t ≡ insert_right b z it) where
-      pub wrong_insert : (r : Pass) → t ≡ false → r ≡ wrong z → r ≡ insert_passed b z it
-      wrong_insert r h f = rw (← e, h, insert_passed) f
+  module _ (page : List ℕ) (n : ℕ) (v : Seeing b page n) (t : Bool) (e : t ≡ chunk_right b page z it) (h : t ≡ true) where
+    pub right_chunk : (r : Pass) → r ≡ with_chunk page z it → Some r ≡ chunk_passed b page z it
+    right_chunk r f = rw (← e, h, f)
 
-      module _ (h : t ≡ true) where
-        pub right_insert : (r : Pass) → r ≡ with_insert z it → r ≡ insert_passed b z it
-        right_insert r f = rw (← e, h, insert_passed) f
+    lying : Lying b.low it.from it.to
+    unfolding chunk_right
+    lying = places_of_a_chunk b.low it (and_left (chunk_lies b.low it) _ (rw e at h))
 
-        pub insert_inside : b.filled ≤ 65536 → it.to ≤ 65536
-        unfolding insert_right
-        insert_inside l = omega (arith, place_of_an_insert b z it (rw (← e) h))
+    pub right_chunk_some : it.from < it.to
+    right_chunk_some = lying.some
 
-        pub insert_small : (r : Pass) → r ≡ with_insert z it → z.seen < b.used → b.filled ≤ 65536 → Small b r
-        insert_small r f k l =
-            rw f
-            (record {
-              seen = omega arith;
-              inserts = omega (arith, small.inserts);
-              count = omega (arith, small.count);
-              bytes = omega (arith, small.bytes, insert_inside l);
-            })
+    pub right_chunk_end : it.to ≤ n
+    right_chunk_end = omega (arith, lying.in_low, v.low_in)
 
-    module _ (page : List ℕ) (n : ℕ) (v : Seeing b page n) (t : Bool) (e : t ≡ chunk_right b page z it) where
-      pub wrong_chunk : (r : Pass) → t ≡ false → r ≡ wrong z → r ≡ chunk_passed b page z it
-      wrong_chunk r h f = rw (← e, h, chunk_passed) f
+    right_laid : Laid page n
+    right_laid = v.laid (omega (arith, lying, v.low_in))
 
-      module _ (h : t ≡ true) where
-        pub right_chunk : (r : Pass) → r ≡ with_chunk page z it → r ≡ chunk_passed b page z it
-        right_chunk r f = rw (← e, h, chunk_passed) f
+    pub right_chunk_sum : it.sum ≤ 65536
+    unfolding chunk_right
+    right_chunk_sum =
+        let f : it.sum ≡ values_size page it.from it.to =
+        eqb-true _ _ (and_left (eqb it.sum (values_size page it.from it.to)) _ (and_right (chunk_lies b.low it) _ (rw e at h))) in
+        omega (
+          arith,
+          f,
+          v.short,
+          values_size_is_a_difference page n right_laid it.from it.to (omega (arith, lying)) right_chunk_end,
+          start_inside page n right_laid it.to right_chunk_end,
+        )
 
-        lying : Lying b.low it.from it.to
-        unfolding chunk_right
-        lying = places_of_a_chunk b.low it (and_left (chunk_lies b.low it) _ (rw e at h))
+    pub chunk_small : (r : Pass) → r ≡ with_chunk page z it → z.seen < b.used → Small b r
+    chunk_small r f k =
+        rw f
+        (record {
+          seen = omega arith;
+          inserts = omega (arith, small.inserts);
+          count = omega (arith, small.count, right_chunk_end, right_laid.inside, v.short);
+          bytes = omega (arith, small.bytes, right_chunk_sum);
+        })
 
-        pub right_chunk_some : it.from < it.to
-        right_chunk_some = lying.some
+  module _ (page : List ℕ) (r : Option Pass) where
+    pub behind_the_used : b.used ≤ z.seen → r ≡ blank_passed z it → r ≡ passed b page z it
+    behind_the_used l e = e ∙ sym (by_tests b page z it (le-ltb z.seen b.used l) refl)
 
-        pub right_chunk_end : it.to ≤ n
-        right_chunk_end = omega (arith, lying.in_low, v.low_in)
+    module _ (l : z.seen < b.used) where
+      pub an_insert_more : it.kind ≡ 1 → r ≡ insert_passed b z it → r ≡ passed b page z it
+      an_insert_more k e = e ∙ sym (by_tests b page z it (lt-ltb z.seen b.used l) (eq-eqb it.kind 1 k))
 
-        right_laid : Laid page n
-        right_laid = v.laid (omega (arith, lying, v.low_in))
-
-        pub right_chunk_sum : it.sum ≤ 65536
-        unfolding chunk_right
-        right_chunk_sum =
-            let f : it.sum ≡ values_size page it.from it.to =
-            eqb-true _ _ (and_left (eqb it.sum (values_size page it.from it.to)) _ (and_right (chunk_lies b.low it) _ (rw e at h))) in
-            omega (
-              arith,
-              f,
-              v.short,
-              values_size_is_a_difference page n right_laid it.from it.to (omega (arith, lying)) right_chunk_end,
-              start_inside page n right_laid it.to right_chunk_end,
-            )
-
-        pub chunk_small : (r : Pass) → r ≡ with_chunk page z it → z.seen < b.used → Small b r
-        chunk_small r f k =
-            rw f
-            (record {
-              seen = omega arith;
-              inserts = omega (arith, small.inserts);
-              count = omega (arith, small.count, right_chunk_end, right_laid.inside, v.short);
-              bytes = omega (arith, small.bytes, right_chunk_sum);
-            })
-
-    module _ (page : List ℕ) where
-      pub stays_wrong : not z.right ≡ true → z ≡ passed b page z it
-      unfolding passed
-      stays_wrong h = sym (by_tests b page z it (not-true z.right h) refl refl)
-
-      module _ (h : not z.right ≡ false) where
-        pub behind_the_used : (r : Pass) → b.used ≤ z.seen → r ≡ blank_passed z it → r ≡ passed b page z it
-        unfolding passed
-        behind_the_used r l e = e ∙ sym (by_tests b page z it (not-false z.right h) (le-ltb z.seen b.used l) refl)
-
-        module _ (l : z.seen < b.used) where
-          pub an_insert_more : (r : Pass) → it.kind ≡ 1 → r ≡ insert_passed b z it → r ≡ passed b page z it
-          unfolding passed
-          an_insert_more r k e = e ∙ sym (by_tests b page z it (not-false z.right h) (lt-ltb z.seen b.used l) (eq-eqb it.kind 1 k))
-
-          pub a_chunk_more : (r : Pass) → (it.kind ≡ 1 → ⊥) → r ≡ chunk_passed b page z it → r ≡ passed b page z it
-          unfolding passed
-          a_chunk_more r k e = e ∙ sym (by_tests b page z it (not-false z.right h) (lt-ltb z.seen b.used l) (ne_eqb it.kind 1 k))
+      pub a_chunk_more : (it.kind ≡ 1 → ⊥) → r ≡ chunk_passed b page z it → r ≡ passed b page z it
+      a_chunk_more k e = e ∙ sym (by_tests b page z it (lt-ltb z.seen b.used l) (ne_eqb it.kind 1 k))

@@ -1,12 +1,14 @@
 -- A pass that found nothing wrong: which entries it saw, and what they come to. Assumes nothing.
-use mathlib.Core.Path.{◌≡◌, refl, sym, ap, ◌∙◌}
-use mathlib.Core.Bool.{Bool, true, false, ◌&&◌, ◌||◌, false≢true}
+use mathlib.Core.Path.{◌≡◌, refl, sym, subst, ◌∙◌}
+use mathlib.Core.Bool.{Bool, true, false, ◌&&◌, ◌||◌}
 use mathlib.Core.List.{List, [], ◌∷◌, ◌++◌}
 use Prim.Native.Nat.{ℕ, suc, ◌+◌, ◌-◌, ◌≤◌, ◌<◌}
 use native.Mathlib.Omega.{arith}
 use lib.Dec.{eqb, leb, ltb}
 use lib.ListN.{length, take, drop, length-append}
-use borrow.Author.Tests.{eq-eqb, ne_eqb, eqb-true, lt-ltb, le-ltb, le-leb, leb-true}
+use Rattle.std.specs.Prelude.{Option, Some, None, option_and_then}
+use Rattle.std.proofs.lemmas.Option.{cond_some, option_and_then_some, same_Some}
+use borrow.Author.Tests.{eq-eqb, ne_eqb, eqb-true, lt-ltb, le-leb, leb-true}
 use Rattle.leaf_node.specs.Limits.{value_limit}
 use Rattle.leaf_node.specs.Record.{Record, total}
 use Rattle.leaf_node.specs.Page.{count, key_at, records_between, values_size}
@@ -22,13 +24,13 @@ use Rattle.leaf_work.specs.declared.Entry.{Entry}
 use Rattle.leaf_work.specs.Tests.{every, same_bytes, is_zero, is_set, bit}
 use Rattle.leaf_work.specs.Lent.{insert_at, chunk_of, an_insert}
 use Rattle.leaf_work.specs.Pending.{held, entry_places, places_of, records_held}
-use Rattle.leaf_work.specs.Sound.{is_flag, is_blank, is_insert, is_chunk, is_operation, placed}
+use Rattle.leaf_work.specs.Sound.{is_flag, is_insert, is_chunk, is_operation, placed}
 use Rattle.leaf_work.proofs.Tests.{and_both, bit_small, map-append}
 use Rattle.leaf_work.proofs.Operations.{chunk_held, total_append}
 use Rattle.leaf_work.proofs.Decoding.{Shape, insert, keep, placed_head, placed_upto, value_long}
 use Rattle.leaf_pass.specs.declared.Pass.{Pass}
 use Rattle.leaf_pass.specs.declared.Bounds.{Bounds}
-use Rattle.leaf_pass.specs.Pass.{is_behind, insert_right, chunk_lies, chunk_right, wrong, with_insert, with_chunk, insert_passed, chunk_passed, blank_passed, passed, passed_all}
+use Rattle.leaf_pass.specs.Pass.{is_behind, insert_right, chunk_lies, chunk_right, with_insert, with_chunk, insert_passed, chunk_passed, passed, passed_all}
 use Rattle.leaf_pass.proofs.Entries.{by_tests, places_of_a_chunk, place_of_an_insert}
 use Rattle.leaf_pass.proofs.Rises.{behind, rises, last_from, is_some, is_behind_lem, rises_left, rises_right, rises_append, last_append, between_rises, between_first, between_last, between_some}
 
@@ -38,65 +40,23 @@ inserts_in [] = 0
 inserts_in (e ∷ es) = elim (an_insert e) [ true ↦ suc (inserts_in es) | false ↦ inserts_in es ]
 
 module _ (b : Bounds) (p : List ℕ) where
-  -- ---- one entry
-
-  stays : (z : Pass) (e : Entry) → z.right ≡ false → passed b p z e ≡ z
-  stays z e h = by_tests b p z e h refl refl
-
-  module _ (z : Pass) (e : Entry) (r : z.right ≡ true) where
-    blank_next : b.used ≤ z.seen → passed b p z e ≡ blank_passed z e
-    blank_next l = by_tests b p z e r (le-ltb z.seen b.used l) refl
-
-    insert_next : z.seen < b.used → an_insert e ≡ true → passed b p z e ≡ insert_passed b z e
-    insert_next l k = by_tests b p z e r (lt-ltb z.seen b.used l) k
-
-    chunk_next : z.seen < b.used → an_insert e ≡ false → passed b p z e ≡ chunk_passed b p z e
-    chunk_next l k = by_tests b p z e r (lt-ltb z.seen b.used l) k
-
-  -- ---- the list
-
-  wrong_stays : (z : Pass) (es : List Entry) → z.right ≡ false → passed_all b p z es ≡ z
-  wrong_stays z [] h = refl
-  wrong_stays z (e ∷ es) h = rw (stays z e h) (wrong_stays z es h)
-
-  -- a wrong entry is never forgotten
-  fails : {A : Type 0} (z x : Pass) (es : List Entry) → x ≡ wrong z → (passed_all b p x es).right ≡ true → A
-  fails z x es q h = absurd (false≢true (sym (ap (λ (y : Pass). y.right) (ap (λ (y : Pass). passed_all b p y es) q ∙ wrong_stays (wrong z) es refl)) ∙ h))
-
-  pub passed_append : (z : Pass) (xs ys : List Entry) → passed_all b p z (xs ++ ys) ≡ passed_all b p (passed_all b p z xs) ys
+  pub passed_append : (z : Pass) (xs ys : List Entry) → passed_all b p z (xs ++ ys) ≡ option_and_then (λ y. passed_all b p y ys) (passed_all b p z xs)
   passed_append z [] ys = refl
-  passed_append z (x ∷ xs) ys = passed_append (passed b p z x) xs ys
-
-  pub right_before : (z : Pass) (xs ys : List Entry) → (passed_all b p z (xs ++ ys)).right ≡ true → (passed_all b p z xs).right ≡ true
-  right_before z xs ys h = go (passed_all b p z xs).right refl
+  passed_append z (x ∷ xs) ys = go (λ y. passed_append y xs ys) (passed b p z x)
     where
-      go : (t : Bool) → (passed_all b p z xs).right ≡ t → (passed_all b p z xs).right ≡ true
-      go true e = e
-      go false e = absurd (false≢true (sym e ∙ sym (ap (λ (y : Pass). y.right) (passed_append z xs ys ∙ wrong_stays (passed_all b p z xs) ys e)) ∙ h))
+      go : ((y : Pass) → passed_all b p y (xs ++ ys) ≡ option_and_then (λ z. passed_all b p z ys) (passed_all b p y xs)) → (o : Option Pass)
+          → option_and_then (λ y. passed_all b p y (xs ++ ys)) o ≡ option_and_then (λ y. passed_all b p y ys) (option_and_then (λ y. passed_all b p y xs) o)
+      go ih None = refl
+      go ih (Some y) = ih y
 
-  -- the entries behind the used ones
+  -- ---- one entry among the used ones
 
-  pub blanks_pass : (z : Pass) (es : List Entry) → z.right ≡ true → b.used ≤ z.seen → every is_blank es ≡ true → passed_all b p z es ≡ z
-  blanks_pass z [] r l h = refl
-  blanks_pass z (e ∷ es) r l h = go (blanks_pass z es r l) (is_blank e) refl h
-    where
-      go : (every is_blank es ≡ true → passed_all b p z es ≡ z) → (t : Bool) → is_blank e ≡ t → ◌≡◌ {A = Bool} (elim t [ true ↦ every is_blank es | false ↦ false ]) true → passed_all b p (passed b p z e) es ≡ z
-      go ih true f h = rw (blank_next z e r l, f, blank_passed) (ih h)
-      go ih false f h = absurd (false≢true h)
+  module _ (z : Pass) (e : Entry) (l : z.seen < b.used) where
+    insert_next : an_insert e ≡ true → passed b p z e ≡ insert_passed b z e
+    insert_next k = by_tests b p z e (lt-ltb z.seen b.used l) k
 
-  pub passed_blanks : (z : Pass) (es : List Entry) → z.right ≡ true → b.used ≤ z.seen → (passed_all b p z es).right ≡ true → (every is_blank es ≡ true) × (passed_all b p z es ≡ z)
-  passed_blanks z [] r l h = (refl, refl)
-  passed_blanks z (e ∷ es) r l h = go (passed_blanks z es r l) (is_blank e) refl
-    where
-      go : ((passed_all b p z es).right ≡ true → (every is_blank es ≡ true) × (passed_all b p z es ≡ z)) → (t : Bool) → is_blank e ≡ t
-          → (every is_blank (e ∷ es) ≡ true) × (passed_all b p (passed b p z e) es ≡ z)
-      go ih true f =
-          let q : passed b p z e ≡ z = blank_next z e r l ∙ rw (f, blank_passed) in
-          let i = ih (rw (passed_all, q) at h) in
-          (rw (f, every) i.0, rw q i.1)
-      go ih false f =
-          let q : passed b p z e ≡ wrong z = blank_next z e r l ∙ rw (f, blank_passed) in
-          fails z (passed b p z e) es q h
+    chunk_next : an_insert e ≡ false → passed b p z e ≡ chunk_passed b p z e
+    chunk_next k = by_tests b p z e (lt-ltb z.seen b.used l) k
 
   -- ---- the used ones
 
@@ -105,32 +65,24 @@ module _ (b : Bounds) (p : List ℕ) where
     take_insert : {z y : Pass} {e : Entry} {es : List Entry} → an_insert e ≡ true → insert_right b z e ≡ true → Walk (with_insert z e) es y → Walk z (e ∷ es) y
     take_chunk : {z y : Pass} {e : Entry} {es : List Entry} → an_insert e ≡ false → chunk_right b p z e ≡ true → Walk (with_chunk p z e) es y → Walk z (e ∷ es) y
 
-  pub walked : (z : Pass) (es : List Entry) → z.right ≡ true → z.seen + length es ≤ b.used → (passed_all b p z es).right ≡ true → Walk z es (passed_all b p z es)
-  walked z [] r l h = stop
-  walked z (e ∷ es) r l h = go (walked (with_insert z e) es refl (omega arith)) (walked (with_chunk p z e) es refl (omega arith)) (an_insert e) (insert_right b z e) (chunk_right b p z e) refl refl refl
+  pub walked : (z y : Pass) (es : List Entry) → z.seen + length es ≤ b.used → passed_all b p z es ≡ Some y → Walk z es y
+  walked z y [] l h = subst (Walk z []) (same_Some z y h) stop
+  walked z y (e ∷ es) l h =
+      option_and_then_some (λ x. passed_all b p x es) (passed b p z e) y h (λ x. go (walked (with_insert z e) y es (omega arith)) (walked (with_chunk p z e) y es (omega arith)) x (an_insert e) refl)
     where
-      go : ((passed_all b p (with_insert z e) es).right ≡ true → Walk (with_insert z e) es (passed_all b p (with_insert z e) es))
-          → ((passed_all b p (with_chunk p z e) es).right ≡ true → Walk (with_chunk p z e) es (passed_all b p (with_chunk p z e) es))
-          → (t i c : Bool) → an_insert e ≡ t → insert_right b z e ≡ i → chunk_right b p z e ≡ c → Walk z (e ∷ es) (passed_all b p (passed b p z e) es)
-      go ih jh true true c k f g =
-          let q : passed b p z e ≡ with_insert z e = insert_next z e r (omega arith) k ∙ rw (f, insert_passed) in
-          rw q (take_insert k f (ih (rw (passed_all, q) at h)))
-      go ih jh true false c k f g = fails z (passed b p z e) es (insert_next z e r (omega arith) k ∙ rw (f, insert_passed)) h
-      go ih jh false i true k f g =
-          let q : passed b p z e ≡ with_chunk p z e = chunk_next z e r (omega arith) k ∙ rw (g, chunk_passed) in
-          rw q (take_chunk k g (jh (rw (passed_all, q) at h)))
-      go ih jh false i false k f g = fails z (passed b p z e) es (chunk_next z e r (omega arith) k ∙ rw (g, chunk_passed)) h
+      go : (passed_all b p (with_insert z e) es ≡ Some y → Walk (with_insert z e) es y) → (passed_all b p (with_chunk p z e) es ≡ Some y → Walk (with_chunk p z e) es y)
+          → (x : Pass) (t : Bool) → an_insert e ≡ t → passed b p z e ≡ Some x → passed_all b p x es ≡ Some y → Walk z (e ∷ es) y
+      go ih jh x true k q r =
+          let f = cond_some (insert_right b z e) (with_insert z e) x (sym (insert_next z e (omega arith) k) ∙ q) in
+          take_insert k f.0 (ih (rw f.1 r))
+      go ih jh x false k q r =
+          let f = cond_some (chunk_right b p z e) (with_chunk p z e) x (sym (chunk_next z e (omega arith) k) ∙ q) in
+          take_chunk k f.0 (jh (rw f.1 r))
 
-  pub walk_is_the_pass : {z y : Pass} {es : List Entry} → Walk z es y → z.right ≡ true → z.seen + length es ≤ b.used → (passed_all b p z es ≡ y) × (y.right ≡ true)
-  walk_is_the_pass stop r l = (refl, r)
-  walk_is_the_pass (take_insert {z} {y} {e} {es} k f w) r l =
-      let ih = walk_is_the_pass w refl (omega arith) in
-      let q : passed b p z e ≡ with_insert z e = insert_next z e r (omega arith) k ∙ rw (f, insert_passed) in
-      (rw q ih.0, ih.1)
-  walk_is_the_pass (take_chunk {z} {y} {e} {es} k f w) r l =
-      let ih = walk_is_the_pass w refl (omega arith) in
-      let q : passed b p z e ≡ with_chunk p z e = chunk_next z e r (omega arith) k ∙ rw (f, chunk_passed) in
-      (rw q ih.0, ih.1)
+  pub walk_is_the_pass : {z y : Pass} {es : List Entry} → Walk z es y → z.seen + length es ≤ b.used → passed_all b p z es ≡ Some y
+  walk_is_the_pass stop l = refl
+  walk_is_the_pass (take_insert {z} {y} {e} {es} k f w) l = rw (insert_next z e (omega arith) k, f) (walk_is_the_pass w (omega arith))
+  walk_is_the_pass (take_chunk {z} {y} {e} {es} k f w) l = rw (chunk_next z e (omega arith) k, f) (walk_is_the_pass w (omega arith))
 
   -- ---- what the entries come to
 

@@ -10,7 +10,7 @@ use lib.Dec.{eqb}
 use Rattle.std.specs.List.{list_all}
 use lib.ListN.{length, length-drop, take, drop, take-append-drop, drop_of_length-le}
 use lib.Seq.{drop-drop, take_all}
-use borrow.Author.Tests.{eq-eqb, ne_eqb, eqb-true, not-true, not-false}
+use borrow.Author.Tests.{eq-eqb, ne_eqb, eqb-true, not-false}
 use Rattle.bit_ops.specs.Key.{num}
 use Rattle.bit_ops.specs.Steps.{zeros}
 use Rattle.bit_ops.proofs.Number.{pow256_pos}
@@ -63,9 +63,6 @@ module _ (xs : List ℕ) (i : ℕ) (e : every is_zero xs ≡ every is_zero (drop
 
   pub eight_zeros_more : not t ≡ false → every is_zero xs ≡ every is_zero (drop (8 * (i + 1)) xs)
   eight_zeros_more h = e ∙ ap (λ (l : List ℕ). every is_zero l) parts ∙ every_append (take 8 (drop (8 * i) xs)) (drop (8 * (i + 1)) xs) (sym q ∙ not-false t h)
-
-  pub one_is_not_zero : not t ≡ true → false ≡ every is_zero xs
-  one_is_not_zero h = sym (e ∙ ap (λ (l : List ℕ). every is_zero l) parts ∙ every_left (take 8 (drop (8 * i) xs)) (drop (8 * (i + 1)) xs) (sym q ∙ not-true t h))
 
 -- ---- a key
 

@@ -1,6 +1,6 @@
 -- The entries one by one, each held against what was seen before it: the pass in which the code tests a list. `proofs/Walks.antt` says what
 -- the entries of a pass that found nothing wrong come to.
-use Rattle.std.specs.Prelude.{◌≡◌, Bool, true, false, not, ◌&&◌, List, [], ◌∷◌, ℕ, ◌+◌, ◌-◌, ◌*◌, ◌≤◌, ◌<◌, eqb, leb, ltb, length}
+use Rattle.std.specs.Prelude.{◌≡◌, Bool, true, false, not, cond, ◌&&◌, List, [], ◌∷◌, ℕ, ◌+◌, ◌-◌, ◌*◌, ◌≤◌, ◌<◌, eqb, leb, ltb, length, Option, Some, None, option_and_then}
 use Rattle.bit_ops.specs.Key.{lt_key}
 use Rattle.leaf_node.specs.Limits.{most_page_bytes}
 use Rattle.leaf_node.specs.Page.{count, key_at, values_size}
@@ -51,12 +51,8 @@ chunk_lies low e = eqb e.kind 2 && (ltb e.from e.to && (leb e.to low && (same_by
 unfoldable pub chunk_right : Bounds → List ℕ → Pass → Entry → Bool
 chunk_right b page z e = chunk_lies b.low e && (eqb e.sum (values_size page e.from e.to) && is_behind z.count z.last (key_at page e.from))
 
-abbrev pub wrong : Pass → Pass
-wrong z = record { right = false; seen = z.seen; inserts = z.inserts; end = z.end; count = z.count; bytes = z.bytes; last = z.last }
-
 abbrev pub with_insert : Pass → Entry → Pass
 with_insert z e = record {
-  right = true;
   seen = z.seen + 1;
   inserts = z.inserts + 1;
   end = e.to;
@@ -67,7 +63,6 @@ with_insert z e = record {
 
 abbrev pub with_chunk : List ℕ → Pass → Entry → Pass
 with_chunk page z e = record {
-  right = true;
   seen = z.seen + 1;
   inserts = z.inserts;
   end = z.end;
@@ -76,30 +71,31 @@ with_chunk page z e = record {
   last = key_at page (e.to - 1);
 }
 
-abbrev pub insert_passed : Bounds → Pass → Entry → Pass
-insert_passed b z e = elim (insert_right b z e) [ true ↦ with_insert z e | false ↦ wrong z ]
+-- one entry more, or nothing where it is wrong
+abbrev pub insert_passed : Bounds → Pass → Entry → Option Pass
+insert_passed b z e = cond (insert_right b z e) (Some (with_insert z e)) None
 
-abbrev pub chunk_passed : Bounds → List ℕ → Pass → Entry → Pass
-chunk_passed b page z e = elim (chunk_right b page z e) [ true ↦ with_chunk page z e | false ↦ wrong z ]
+abbrev pub chunk_passed : Bounds → List ℕ → Pass → Entry → Option Pass
+chunk_passed b page z e = cond (chunk_right b page z e) (Some (with_chunk page z e)) None
 
-abbrev pub blank_passed : Pass → Entry → Pass
-blank_passed z e = elim (is_blank e) [ true ↦ z | false ↦ wrong z ]
+abbrev pub blank_passed : Pass → Entry → Option Pass
+blank_passed z e = cond (is_blank e) (Some z) None
 
--- the pass after one more entry, by what was seen: nothing wrong, not all used entries; and by its kind: an insert
-abbrev pub passed_by : Bounds → List ℕ → Pass → Entry → Bool → Bool → Bool → Pass
-passed_by b page z e false used an_insert = z
-passed_by b page z e true false an_insert = blank_passed z e
-passed_by b page z e true true true = insert_passed b z e
-passed_by b page z e true true false = chunk_passed b page z e
+-- the pass after one more entry, by what was seen: not all used entries; and by its kind: an insert
+abbrev pub passed_by : Bounds → List ℕ → Pass → Entry → Bool → Bool → Option Pass
+passed_by b page z e false an_insert = blank_passed z e
+passed_by b page z e true true = insert_passed b z e
+passed_by b page z e true false = chunk_passed b page z e
 
-unfoldable pub passed : Bounds → List ℕ → Pass → Entry → Pass
-passed b page z e = passed_by b page z e z.right (ltb z.seen b.used) (an_insert e)
+unfoldable pub passed : Bounds → List ℕ → Pass → Entry → Option Pass
+passed b page z e = passed_by b page z e (ltb z.seen b.used) (an_insert e)
 
 -- ---- the list
 
-abbrev pub passed_all : Bounds → List ℕ → Pass → List Entry → Pass
-passed_all b page z [] = z
-passed_all b page z (e ∷ es) = passed_all b page (passed b page z e) es
+-- an entry that is wrong ends the pass
+abbrev pub passed_all : Bounds → List ℕ → Pass → List Entry → Option Pass
+passed_all b page z [] = Some z
+passed_all b page z (e ∷ es) = option_and_then (λ y. passed_all b page y es) (passed b page z e)
 
 abbrev pub begun : List ℕ → Pass
-begun separator = record { right = true; seen = 0; inserts = 0; end = 0; count = 0; bytes = 0; last = separator }
+begun separator = record { seen = 0; inserts = 0; end = 0; count = 0; bytes = 0; last = separator }

@@ -2,22 +2,20 @@
 #![tactic(auto)]
 
 ghost use Rattle.std.specs.List.{list_all};
-ghost use Rattle.std.specs.Prelude.{◌≡◌, ◌==◌, ◌+◌, ◌-◌, ◌≤◌, ◌<◌, length, get_or, take, drop};
+ghost use Rattle.std.specs.Prelude.{◌≡◌, ◌==◌, ◌+◌, ◌-◌, ◌≤◌, ◌<◌, length, get_or, take, drop, IfSome};
 ghost use Rattle.leaf_node.specs.Page.{count};
 ghost use Rattle.leaf_model.specs.Work.{zero_key};
 ghost use Rattle.leaf_work.specs.Tests.{every, is_zero, same_bytes};
 ghost use Rattle.leaf_work.specs.Sound.{is_blank};
-ghost use Rattle.leaf_pass.specs.Pass.{Seeing, Small, is_behind, insert_right, chunk_lies, chunk_right, with_insert, with_chunk, wrong, insert_passed, chunk_passed, blank_passed, passed, passed_all};
+ghost use Rattle.leaf_pass.specs.Pass.{Seeing, Small, is_behind, insert_right, chunk_lies, chunk_right, with_insert, with_chunk, insert_passed, chunk_passed, blank_passed, passed, passed_all};
 
 use bit_ops::{less, word_from};
 use leaf_node::LeafNode;
 use leaf_work::Entry;
 
-// What the pass over the list knows of the entries that it has seen.
+// What the pass over the list knows of the entries that it has seen, none of which was wrong.
 #[derive(Clone, Copy)]
 pub struct Pass {
-    // none of them was wrong
-    pub right: bool,
     pub seen: usize,
     // how many are inserts, and where the next one's value must begin
     pub inserts: usize,
@@ -84,20 +82,13 @@ pub fn same_key(a: &[u8; 32], b: &[u8; 32]) -> bool
     bit_ops::equal(a, b)
 }
 
-// Whether 32 bytes are zeros, by four words and without a branch: it is asked of every unused entry.
-fn zero_words(key: &[u8; 32]) -> bool
+// Whether a key is zeros, as an absent one must be: by four words and without a branch, since it is asked of every unused entry.
+pub fn is_zero_key(key: &[u8; 32]) -> bool
     ensures { result ≡ same_bytes key.now zero_key }
 {
     let low = eight_zeros(key, 0) & eight_zeros(key, 8);
     let high = eight_zeros(key, 16) & eight_zeros(key, 24);
     low & high
-}
-
-// Whether a key is zeros, as an absent one must be.
-pub fn is_zero_key(key: &[u8; 32]) -> bool
-    ensures { result ≡ same_bytes key.now zero_key }
-{
-    zero_words(key)
 }
 
 // Whether an entry is unused: all of its fields are zero.
@@ -154,22 +145,11 @@ fn chunk_right(bounds: Bounds, pass: Pass, entry: &Entry, node: LeafNode) -> boo
     (entry.sum == sum) & behind
 }
 
-// A pass that found something wrong.
-pub fn wrong_pass(pass: Pass) -> Pass
-    ensures { result ≡ wrong pass }
-{
-    Pass {
-        right: false,
-        ..pass
-    }
-}
-
 fn with_insert(bounds: Bounds, pass: Pass, entry: &Entry) -> Pass
     requires { (Small bounds pass) × (pass.seen < bounds.used) × (bounds.used ≤ 4096) × (entry.now.to ≤ 65536) }
     ensures { result ≡ with_insert pass entry.now }
 {
     Pass {
-        right: true,
         seen: pass.seen + 1,
         inserts: pass.inserts + 1,
         end: entry.to,
@@ -184,7 +164,6 @@ fn with_chunk(bounds: Bounds, pass: Pass, entry: &Entry, node: LeafNode) -> Pass
     ensures { result ≡ with_chunk node.entry.page.now pass entry.now }
 {
     Pass {
-        right: true,
         seen: pass.seen + 1,
         count: pass.count + (entry.to - entry.from),
         bytes: pass.bytes + entry.sum,
@@ -193,45 +172,39 @@ fn with_chunk(bounds: Bounds, pass: Pass, entry: &Entry, node: LeafNode) -> Pass
     }
 }
 
-// The pass after one more entry that must be an insert, a chunk, or unused.
-fn pass_insert(bounds: Bounds, pass: Pass, entry: &Entry) -> Pass
+// The pass after one more entry that must be an insert, a chunk, or unused: none where the entry is wrong.
+fn pass_insert(bounds: Bounds, pass: Pass, entry: &Entry) -> Option<Pass>
     requires { (Small bounds pass) × (pass.seen < bounds.used) × (bounds.used ≤ 4096) × (bounds.filled ≤ 65536) }
-    ensures { (result ≡ insert_passed bounds pass entry.now) × (Small bounds result) }
+    ensures { (result ≡ insert_passed bounds pass entry.now) × IfSome result (Small bounds) }
 {
     if insert_right(bounds, pass, entry) {
-        return with_insert(bounds, pass, entry);
+        return Some(with_insert(bounds, pass, entry));
     }
-    wrong_pass(pass)
+    None
 }
 
-fn pass_chunk(bounds: Bounds, pass: Pass, entry: &Entry, node: LeafNode) -> Pass
+fn pass_chunk(bounds: Bounds, pass: Pass, entry: &Entry, node: LeafNode) -> Option<Pass>
     requires { (Seeing bounds node.page.now node.n) × (Small bounds pass) × (pass.seen < bounds.used) }
-    ensures { (result ≡ chunk_passed bounds node.entry.page.now pass entry.now) × (Small bounds result) }
+    ensures { (result ≡ chunk_passed bounds node.entry.page.now pass entry.now) × IfSome result (Small bounds) }
 {
     if chunk_right(bounds, pass, entry, node) {
-        return with_chunk(bounds, pass, entry, node);
+        return Some(with_chunk(bounds, pass, entry, node));
     }
-    wrong_pass(pass)
+    None
 }
 
-fn pass_blank(bounds: Bounds, pass: Pass, entry: &Entry) -> Pass
+fn pass_blank(bounds: Bounds, pass: Pass, entry: &Entry) -> Option<Pass>
     requires { Small bounds pass }
-    ensures { (result ≡ blank_passed pass entry.now) × (Small bounds result) }
+    ensures { (result ≡ blank_passed pass entry.now) × IfSome result (Small bounds) }
 {
-    if is_blank(entry) {
-        return pass;
-    }
-    wrong_pass(pass)
+    is_blank(entry).then_some(pass)
 }
 
 // The pass after one more entry: an operation among the used ones, unused behind them.
-pub fn pass_entry(bounds: Bounds, pass: Pass, entry: &Entry, node: LeafNode) -> Pass
+pub fn pass_entry(bounds: Bounds, pass: Pass, entry: &Entry, node: LeafNode) -> Option<Pass>
     requires { (Seeing bounds node.page.now node.n) × (Small bounds pass) }
-    ensures { (result ≡ passed bounds node.entry.page.now pass entry.now) × (Small bounds result) }
+    ensures { (result ≡ passed bounds node.entry.page.now pass entry.now) × IfSome result (Small bounds) }
 {
-    if !pass.right {
-        return pass;
-    }
     if bounds.used <= pass.seen {
         return pass_blank(bounds, pass, entry);
     }
@@ -244,15 +217,15 @@ pub fn pass_entry(bounds: Bounds, pass: Pass, entry: &Entry, node: LeafNode) -> 
 // ---- the list
 
 // The pass over entries, one by one.
-fn pass_each(bounds: Bounds, start: Pass, list: &[Entry], node: LeafNode) -> Pass
+fn pass_each(bounds: Bounds, start: Pass, list: &[Entry], node: LeafNode) -> Option<Pass>
     requires { (Seeing bounds node.page.now node.n) × (Small bounds start) }
-    ensures { (result ≡ passed_all bounds node.entry.page.now start list.now) × (Small bounds result) }
+    ensures { (result ≡ passed_all bounds node.entry.page.now start list.now) × IfSome result (Small bounds) }
 {
     let mut pass = start;
     for entry in list {
-        pass = pass_entry(bounds, pass, entry, node);
+        pass = pass_entry(bounds, pass, entry, node)?;
     }
-    pass
+    Some(pass)
 }
 
 fn all_blank(list: &[Entry]) -> bool
@@ -263,14 +236,11 @@ fn all_blank(list: &[Entry]) -> bool
 
 // The pass over all entries, by the one over the used ones: any other that isn't unused is wrong. So the long rest of a list costs one small
 // test an entry.
-pub fn pass_list(bounds: Bounds, start: Pass, list: &[Entry], node: LeafNode) -> Pass
+pub fn pass_list(bounds: Bounds, start: Pass, list: &[Entry], node: LeafNode) -> Option<Pass>
     requires { (Seeing bounds node.page.now node.n) × (Small bounds start) }
-    ensures { (result ≡ passed_all bounds node.entry.page.now start list.now) × (Small bounds result) }
+    ensures { (result ≡ passed_all bounds node.entry.page.now start list.now) × IfSome result (Small bounds) }
 {
     let used = bounds.used.min(list.len());
-    let pass = pass_each(bounds, start, &list[..used], node);
-    if all_blank(&list[used..]) {
-        return pass;
-    }
-    wrong_pass(pass)
+    let pass = pass_each(bounds, start, &list[..used], node)?;
+    all_blank(&list[used..]).then_some(pass)
 }

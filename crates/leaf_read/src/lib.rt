@@ -4,19 +4,17 @@
 
 ghost use Rattle.std.specs.Prelude.{◌≡◌, ◌≤◌, ◌<◌, IfOk};
 ghost use Rattle.refusal.specs.Numbers.{number_of, numbered};
-ghost use Rattle.leaf_node.specs.Limits.{PageSize};
 ghost use Rattle.leaf_node.specs.Good.{page_verdict};
 ghost use Rattle.leaf_read.specs.Reply.{index_verdict, range_verdict, key_reply, value_reply, size_reply, get_reply};
 
-use leaf_node::{Cell, LeafNode, PAGE_SIZE, search};
+use leaf_node::{Cell, LeafNode, PAGE, Size, search};
 use refusal::Refusal;
 
 // ---- reading by index
 
 // A page that has record i.
-fn with_record(page: &[u8], size: usize, i: usize) -> Result<LeafNode<'_>, Refusal>
-    requires { PageSize size }
-    ensures number { number_of result ≡ index_verdict size page.now i }
+fn with_record(page: &[u8], size: Size, i: usize) -> Result<LeafNode<'_>, Refusal>
+    ensures number { number_of result ≡ index_verdict size.bytes page.now i }
     ensures node { IfOk result (λ node. (node.page.now ≡ page.now) × (i < node.n)) }
 {
     let node = LeafNode::new(page, size)?; // Nos. 1 to 5 come first
@@ -27,9 +25,8 @@ fn with_record(page: &[u8], size: usize, i: usize) -> Result<LeafNode<'_>, Refus
 }
 
 // A page that has records `from` up to `to`, at least one.
-fn with_records(page: &[u8], size: usize, from: usize, to: usize) -> Result<LeafNode<'_>, Refusal>
-    requires { PageSize size }
-    ensures number { number_of result ≡ range_verdict size page.now from to }
+fn with_records(page: &[u8], size: Size, from: usize, to: usize) -> Result<LeafNode<'_>, Refusal>
+    ensures number { number_of result ≡ range_verdict size.bytes page.now from to }
     ensures node { IfOk result (λ node. (node.page.now ≡ page.now) × (from ≤ to) × (to ≤ node.n)) }
 {
     let node = LeafNode::new(page, size)?;
@@ -46,7 +43,7 @@ fn with_records(page: &[u8], size: usize, from: usize, to: usize) -> Result<Leaf
 pub fn key(page: &[u8], i: usize) -> Result<[u8; 32], Refusal>
     ensures { numbered result ≡ key_reply 4096 page.now i }
 {
-    let node = with_record(page, PAGE_SIZE, i)?;
+    let node = with_record(page, PAGE, i)?;
     Ok(*node.key(i))
 }
 
@@ -55,7 +52,7 @@ pub fn value(page: &[u8], i: usize) -> Result<Cell, Refusal>
     ensures value { numbered result ≡ value_reply 4096 page.now i }
     ensures result_value { number_of result ≡ index_verdict 4096 page.now i }
 {
-    let node = with_record(page, PAGE_SIZE, i)?;
+    let node = with_record(page, PAGE, i)?;
     Ok(node.cell(i))
 }
 
@@ -64,7 +61,7 @@ pub fn values_size(page: &[u8], from: usize, to: usize) -> Result<usize, Refusal
     ensures value { numbered result ≡ size_reply 4096 page.now from to }
     ensures result_value { number_of result ≡ range_verdict 4096 page.now from to }
 {
-    let node = with_records(page, PAGE_SIZE, from, to)?;
+    let node = with_records(page, PAGE, from, to)?;
     Ok(node.size_between(from, to))
 }
 
@@ -75,7 +72,7 @@ pub fn get(page: &[u8], key: &[u8; 32]) -> Result<Result<Cell, usize>, Refusal>
     ensures value { numbered result ≡ get_reply 4096 page.now key.now }
     ensures result_value { number_of result ≡ page_verdict 4096 page.now }
 {
-    let node = LeafNode::new(page, PAGE_SIZE)?;
+    let node = LeafNode::new(page, PAGE)?;
     match search(node.page, node.n, 0, key) {
         Ok(i) => Ok(Ok(node.cell(i))),
         Err(i) => Ok(Err(i)),

@@ -11,4 +11,3 @@ pub mod Readiness
 pub mod PendingRecords
 pub mod Canonical
 pub mod Examples
-pub mod Everyone

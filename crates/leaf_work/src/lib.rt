@@ -2,7 +2,7 @@
 // Ported from nomt/src/beatree/ops/update/leaf_updater.rs of thrumdev/nomt: `LeafUpdater`, `LeafGauge` and `LeafOp`.
 #![tactic(auto)]
 
-ghost use Rattle.std.specs.Prelude.{◌≡◌, eqb};
+ghost use Rattle.std.specs.Prelude.{◌≡◌, eqb, length};
 ghost use Rattle.leaf_model.specs.Work.{below_cutoff};
 ghost use Rattle.leaf_work.specs.Tests.{is_set, key_if, lent_key};
 ghost use Rattle.leaf_work.specs.Lent.{is_open, is_waiting, is_done, cutoff_of, last_of, separator_of, reads_base, regarded};
@@ -136,6 +136,24 @@ impl Work {
             return page;
         }
         &page[..0]
+    }
+}
+
+// How many entries the list has, and how many bytes the store.
+#[derive(Clone, Copy)]
+pub struct Room {
+    pub entries: usize,
+    pub bytes: usize,
+}
+
+impl Room {
+    pub fn of(list: &[Entry], store: &[u8]) -> Room
+        ensures { (result.entries ≡ length list.now) × (result.bytes ≡ length store.now) }
+    {
+        Room {
+            entries: list.len(),
+            bytes: store.len(),
+        }
     }
 }
 

@@ -1,12 +1,11 @@
 -- What is known of every refusal. Assumes nothing.
-use Prim.Native.Nat.{ℕ}
 use mathlib.Core.Path.{◌≡◌, refl}
 use native.Mathlib.Omega.{arith}
 use Rattle.refusal.specs.declared.Refusal.{Refusal}
 use Rattle.refusal.specs.declared.Refusal.TheVariants.{PageLength, TooManyRecords, BadOffsets, LongPageValue, KeysNotRising, BadBounds, RoomLength, Unsound, OutOfTurn, NoSuchIndex, EqualKeys, LongValue, KeyTooLow, KeyPastCutoff, ListFull, StoreFull, ShortArea, LongRow, BadWeight, OddTree, OverflowLength, ShortBuffer, BadOverflow, HeavyTree}
 use Rattle.std.specs.Prelude.{Result, Ok, Err}
 use Rattle.std.specs.Result.{IsErr, IsErrAnd}
-use Rattle.refusal.specs.Numbers.{number, number_of, numbered}
+use Rattle.refusal.specs.Numbers.{number}
 
 -- no refusal has the number of an accepted call
 pub refused : (e : Refusal) → number e ≡ 0 → ⊥

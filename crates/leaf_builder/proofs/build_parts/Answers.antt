@@ -1,11 +1,8 @@
 -- `leaf_builder::build_parts` meets its contract: what is pushed in order builds the page.
 -- Assumes nothing.
 use Rattle.std.proofs.Common.{rules}
-use Rattle.leaf_builder.proofs.Rebuilding.{parts_long, parts_laid, parts_begin, parts_cells, parts_chunk, parts_built}
+use Rattle.leaf_builder.proofs.Rebuilding.{parts_laid, parts_begin, parts_cells, parts_chunk, parts_built}
 use Rattle.leaf_builder.proofs.build_parts.Goals as goal
-
-pub count_of-requires : goal.count_of-requires
-count_of-requires c = search (parts_long, rules)
 
 pub size_between-total-requires : goal.size_between-total-requires
 size_between-total-requires c = (search (parts_laid, rules), search rules, search rules)

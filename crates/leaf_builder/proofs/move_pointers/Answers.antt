@@ -2,11 +2,8 @@
 -- Assumes nothing.
 use Rattle.std.proofs.Common.{rules}
 use Rattle.leaf_builder.proofs.Writing.{chunk_shift}
-use Rattle.leaf_builder.proofs.Shifting.{no_pointer_yet, one_pointer_more, all_pointers}
+use Rattle.leaf_builder.proofs.Shifting.{one_pointer_more, all_pointers}
 use Rattle.leaf_builder.proofs.move_pointers.Goals as goal
-
-pub loop-i-init : goal.loop-i-init
-loop-i-init c = (search rules, search rules, search rules, search (no_pointer_yet, rules))
 
 pub push_pointer-requires : goal.push_pointer-requires
 push_pointer-requires c = search (chunk_shift, rules)

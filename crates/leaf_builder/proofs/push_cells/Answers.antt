@@ -2,7 +2,7 @@
 -- Assumes nothing.
 use Rattle.std.proofs.Common.{rules}
 use mathlib.Core.Path.{refl}
-use Rattle.leaf_builder.proofs.Writing.{cells_start, cells_done, cells_end, cells_one, cells_next, cells_more}
+use Rattle.leaf_builder.proofs.Writing.{cells_start, cells_one, cells_next, cells_more}
 use Rattle.leaf_builder.proofs.push_cells.Goals as goal
 
 pub loop-i-init : goal.loop-i-init
@@ -13,6 +13,3 @@ push_record-next-requires c = search (cells_one, rules)
 
 pub loop-i-preserved : goal.loop-i-preserved
 loop-i-preserved c = (search rules, search rules, search rules, search (cells_next, rules), search (cells_more, rules), search rules)
-
-pub returns : goal.returns
-returns c = (search (cells_done, rules), search (cells_end, rules))

@@ -2,11 +2,8 @@
 -- Assumes nothing.
 use Rattle.std.proofs.Common.{rules}
 use native.Mathlib.Omega.{arith}
-use Rattle.leaf_builder.proofs.Writing.{record_readable, record_end, record_pushed, record_next}
+use Rattle.leaf_builder.proofs.Writing.{record_end, record_pushed, record_next}
 use Rattle.leaf_builder.proofs.push_record.Goals as goal
-
-pub cell_at-c-requires : goal.cell_at-c-requires
-cell_at-c-requires c = search (record_readable, rules)
 
 pub overflow_add-last : goal.overflow_add-last
 overflow_add-last c = omega (arith, record_end)

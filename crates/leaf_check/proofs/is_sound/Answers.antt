@@ -1,7 +1,7 @@
 -- `leaf_check::is_sound` meets its contract.
 -- Assumes nothing.
 use Rattle.std.proofs.Common.{rules}
-use Rattle.leaf_check.proofs.Sounds.{wrong_record, not_within, not_clear, the_entries_decide, the_pass_sees, the_filled_part_is_inside}
+use Rattle.leaf_check.proofs.Sounds.{wrong_record, not_within, not_clear, the_entries_decide}
 use Rattle.leaf_check.proofs.is_sound.Goals as goal
 
 pub returns-then-not-record_right : goal.returns-then-not-record_right
@@ -10,14 +10,8 @@ returns-then-not-record_right c = search (wrong_record, rules)
 pub returns-then-not-work-list : goal.returns-then-not-work-list
 returns-then-not-work-list c = search (not_within, rules)
 
-pub zeros_from-requires : goal.zeros_from-requires
-zeros_from-requires c = (search (the_filled_part_is_inside, rules), search rules)
-
 pub returns-then-not-zeros_from : goal.returns-then-not-zeros_from
 returns-then-not-zeros_from c = search (not_clear, rules)
-
-pub entries_sound-requires : goal.entries_sound-requires
-entries_sound-requires c = (search rules, search (the_pass_sees, rules))
 
 pub returns : goal.returns
 returns c = search (the_entries_decide, rules)

@@ -12,7 +12,7 @@ pub returns-then-not-room_right-clause-number : goal.returns-then-not-room_right
 returns-then-not-room_right-clause-number c = search (the_room_is_refused, rules)
 
 pub is_sound-requires : goal.is_sound-requires
-is_sound-requires c = (search rules, search (the_regarded_is_good, rules), search (few_entries, rules), search (few_bytes, rules))
+is_sound-requires c = (search (the_regarded_is_good, rules), search (few_entries, rules), search (few_bytes, rules))
 
 pub returns-then-not-is_sound-clause-number : goal.returns-then-not-is_sound-clause-number
 returns-then-not-is_sound-clause-number c = search (the_work_is_refused, rules)

@@ -1,11 +1,8 @@
 -- `leaf_node::place_from` meets its contract: lo and hi bracket the place.
 -- Assumes nothing.
 use Rattle.std.proofs.Common.{rules}
-use Rattle.leaf_node.proofs.Searches.{bracket_start, bracket_up, bracket_down, bracket_end}
+use Rattle.leaf_node.proofs.Searches.{bracket_up, bracket_down, bracket_end}
 use Rattle.leaf_node.proofs.place_from.Goals as goal
-
-pub loop-lo-init : goal.loop-lo-init
-loop-lo-init c = search (bracket_start, rules)
 
 pub loop-lo-preserved-then-less : goal.loop-lo-preserved-then-less
 loop-lo-preserved-then-less c = search (bracket_up, rules)

@@ -15,7 +15,7 @@ returns-then-start_at-most c = search (values_long, rules)
 
 pub loop-i-preserved : goal.loop-i-preserved
 loop-i-preserved c =
-    (search rules, values_more _ _ _ _ _ c.loop-i.invariant.1 c.start_at.ensures.0 c.start_at-in-loop-i.ensures.0 c.if-start_at-most.false)
+    (search rules, values_more _ _ _ c.value_limit-most.ensures.0 _ _ _ c.loop-i.invariant.1 c.start_at.ensures.0 c.start_at-in-loop-i.ensures.0 c.if-start_at-most.false)
 
 pub returns : goal.returns
 returns c = search (values_done, rules)

@@ -7,8 +7,8 @@ use Rattle.leaf_node.proofs.verdict.Goals as goal
 pub returns-then-page-size : goal.returns-then-page-size
 returns-then-page-size c = search (verdict_1, rules)
 
-pub returns-then-size-n : goal.returns-then-size-n
-returns-then-size-n c = search (verdict_2, rules)
+pub returns-then-record_limit-n : goal.returns-then-record_limit-n
+returns-then-record_limit-n c = search (verdict_2, rules)
 
 pub returns-then-not-offsets_right : goal.returns-then-not-offsets_right
 returns-then-not-offsets_right c = search (verdict_3, rules)

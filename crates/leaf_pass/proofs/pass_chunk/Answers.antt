@@ -1,7 +1,7 @@
 -- `leaf_pass::pass_chunk` meets its contract.
 -- Assumes nothing.
 use Rattle.std.proofs.Common.{rules}
-use Rattle.leaf_pass.proofs.Entries.{wrong_small, wrong_chunk, right_chunk, right_chunk_some, right_chunk_end, right_chunk_sum, chunk_small}
+use Rattle.leaf_pass.proofs.Entries.{right_chunk, right_chunk_some, right_chunk_end, right_chunk_sum, chunk_small}
 use Rattle.leaf_pass.proofs.pass_chunk.Goals as goal
 
 pub with_chunk-requires : goal.with_chunk-requires
@@ -9,6 +9,3 @@ with_chunk-requires c = (search rules, search rules, search rules, search (right
 
 pub returns-then-chunk_right : goal.returns-then-chunk_right
 returns-then-chunk_right c = (search (right_chunk, rules), search (chunk_small, rules))
-
-pub returns : goal.returns
-returns c = (search (wrong_chunk, rules), search (wrong_small, rules))

@@ -1,11 +1,8 @@
 -- `leaf_pass::pass_entry` meets its contract.
 -- Assumes nothing.
 use Rattle.std.proofs.Common.{rules}
-use Rattle.leaf_pass.proofs.Entries.{stays_wrong, behind_the_used, an_insert_more, a_chunk_more}
+use Rattle.leaf_pass.proofs.Entries.{behind_the_used, an_insert_more, a_chunk_more}
 use Rattle.leaf_pass.proofs.pass_entry.Goals as goal
-
-pub returns-then-not-pass : goal.returns-then-not-pass
-returns-then-not-pass c = (search (stays_wrong, rules), search rules)
 
 pub returns-then-bounds-pass : goal.returns-then-bounds-pass
 returns-then-bounds-pass c = (search (behind_the_used, rules), search rules)

@@ -1,11 +1,11 @@
 -- `leaf_pass::pass_list` meets its contract.
 -- Assumes nothing.
 use Rattle.std.proofs.Common.{rules}
-use Rattle.leaf_pass.proofs.Behind.{nothing_behind, something_behind, wrong_is_small}
+use Rattle.leaf_pass.proofs.Behind.{a_wrong_used_one, the_others_decide}
 use Rattle.leaf_pass.proofs.pass_list.Goals as goal
 
-pub returns-then-all_blank : goal.returns-then-all_blank
-returns-then-all_blank c = (search (nothing_behind, rules), search rules)
+pub returns-in_err-pass : goal.returns-in_err-pass
+returns-in_err-pass c = (search (a_wrong_used_one, rules), search rules)
 
 pub returns : goal.returns
-returns c = (search (something_behind, rules), search (wrong_is_small, rules))
+returns c = (search (the_others_decide, c.in_ok-pass.was, rules), search rules)

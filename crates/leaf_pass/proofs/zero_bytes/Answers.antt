@@ -2,11 +2,8 @@
 -- Assumes nothing.
 use Rattle.std.proofs.Common.{rules, length, ◌/◌}
 use native.Mathlib.Omega.{arith}
-use Rattle.leaf_pass.proofs.Zeros.{eight_zeros_more, one_is_not_zero, the_last_decide}
+use Rattle.leaf_pass.proofs.Zeros.{eight_zeros_more, the_last_decide}
 use Rattle.leaf_pass.proofs.zero_bytes.Goals as goal
-
-pub returns-then-not-eight_zeros : goal.returns-then-not-eight_zeros
-returns-then-not-eight_zeros c = search (one_is_not_zero, rules)
 
 pub loop-i-preserved : goal.loop-i-preserved
 loop-i-preserved c = search (eight_zeros_more, rules)
