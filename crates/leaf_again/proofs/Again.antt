@@ -7,7 +7,7 @@ use Prim.Native.Nat.{ℕ, ◌+◌, ◌-◌, ◌≤◌, ◌<◌}
 use native.Mathlib.Omega.{arith}
 use lib.Dec.{leb}
 use lib.ListN.{length}
-use borrow.Author.Tests.{eq-eqb, ne_eqb, le-leb, lt-leb, leb-true, not-true, not-false}
+use borrow.Author.Tests.{ne_eqb, le-leb, lt-leb, leb-true, not-true, not-false}
 use Rattle.std.specs.Prelude as std
 use Rattle.std.specs.Borrow.{Bor}
 use Rattle.std.specs.Option.{is_some}
@@ -16,7 +16,9 @@ use Rattle.leaf_node.specs.Limits.{PageSize, record_limit}
 use Rattle.leaf_node.specs.Record.{total}
 use Rattle.leaf_node.specs.Page.{count, record_at, records_between, records, values_size}
 use Rattle.leaf_node.specs.Good.{Good}
+use Rattle.leaf_node.specs.Steps.{Laid}
 use Rattle.leaf_node.proofs.Lengths.{length_run}
+use Rattle.leaf_node.proofs.Reading.{good_pages_are_laid}
 use Rattle.leaf_model.proofs.Tests.{and_left, and_right}
 use Rattle.leaf_work.specs.declared.Work.{Work}
 use Rattle.leaf_work.specs.declared.Entry.{Entry}
@@ -33,13 +35,7 @@ use Rattle.leaf_open.specs.Opening.{key_or_zeros}
 -- ---- a page that follows
 
 module _ (w : Work) (p s : List ℕ) (entries bytes : ℕ) where
-  pub no_cutoff_is_out_of_turn : w.cut ≡ 0 → 9 ≡ follows_verdict w p s entries bytes
-  no_cutoff_is_out_of_turn e = rw (eq-eqb w.cut 0 e)
-
   module _ (cut : w.cut ≡ 0 → ⊥) (t : Bool) (q : t ≡ lt_key s w.cutoff) where
-    pub a_low_separator_has_number_13 : t ≡ true → 13 ≡ follows_verdict w p s entries bytes
-    a_low_separator_has_number_13 h = rw (ne_eqb w.cut 0 cut, ← q, h)
-
     module _ (h : t ≡ false) (n : ℕ) (e : n ≡ count p) (few : n ≤ entries) where
       record_count : length (records p) ≡ n
       unfolding records records_between
@@ -111,29 +107,20 @@ module _ (size : ℕ) (w : Work) (list : List Entry) (store : List ℕ) (p s : L
     pub the_work_comes_before_what_follows : (v ≡ 0 → ⊥) → v ≡ next_base_verdict size w list store p s c
     the_work_comes_before_what_follows h = rw next (sym (first_refused v _ h))
 
-    module _ (y : v ≡ 0) where
-      pub then_the_page_decides : (r : ℕ) → r ≡ follows_verdict w p s (length list) (length store) → r ≡ next_base_verdict size w list store p s c
-      then_the_page_decides r g = rw (next, y) g
+    module _ (y : v ≡ 0) (entries bytes : ℕ) (i : entries ≡ length list) (j : bytes ≡ length store) where
+      pub then_the_page_decides : (r : ℕ) → r ≡ follows_verdict w p s entries bytes → r ≡ next_base_verdict size w list store p s c
+      then_the_page_decides r g = rw (next, y, ← i, ← j) g
 
       -- what the tests of the page that follows require
-      module _ (q : PageSize size) where
-        good : Good size p
-        good = base_page_is_good size q p s c (sym e ∙ z)
-
-        room : room_right size (length list) (length store) ≡ true
-        room = closed_room size w list store (sym f ∙ y)
-
-        pub a_new_base_has_fewer_records_than_the_list : (n : ℕ) → n ≡ count p → n ≤ length list
-        a_new_base_has_fewer_records_than_the_list n d =
-            let n = record_limit size + 1 in
-            let l : n ≤ length list = leb-true n (length list) (and_left _ (leb (length list) most_entries) (and_left _ (leb size (length store)) (and_left _ (leb (length store) most_store_bytes) room))) in
-            omega (arith, good.few)
-
-        pub a_new_base_is_no_longer_than_the_store : length p ≤ length store
-        a_new_base_is_no_longer_than_the_store =
-            let m : size ≤ length store =
-            leb-true size (length store) (and_right (leb (record_limit size + 1) (length list) && leb (length list) most_entries) _ (and_left _ (leb (length store) most_store_bytes) room)) in
-            omega (arith, good.sized)
+      pub a_new_base_has_room : PageSize size → Laid p (count p) × (count p ≤ entries) × (length p ≤ bytes)
+      a_new_base_has_room q =
+          let good : Good size p = base_page_is_good size q p s c (sym e ∙ z) in
+          let room : room_right size (length list) (length store) ≡ true = closed_room size w list store (sym f ∙ y) in
+          let many : record_limit size + 1 ≤ length list =
+          leb-true (record_limit size + 1) (length list) (and_left _ (leb (length list) most_entries) (and_left _ (leb size (length store)) (and_left _ (leb (length store) most_store_bytes) room))) in
+          let long : size ≤ length store =
+          leb-true size (length store) (and_right (leb (record_limit size + 1) (length list) && leb (length list) most_entries) _ (and_left _ (leb (length store) most_store_bytes) room)) in
+          (good_pages_are_laid size p q good, omega (arith, good.few), omega (arith, good.sized))
 
 module _ (size : ℕ) (w : Work) (list : List Entry) (store : List ℕ) (v : ℕ) (e : v ≡ closed_verdict size w list store 0) where
   pub the_work_comes_before_the_turn : (v ≡ 0 → ⊥) → v ≡ remove_verdict size w list store

@@ -5,30 +5,31 @@
 ghost use Rattle.std.specs.Prelude.{◌≡◌, ◌≤◌, length};
 ghost use Rattle.std.specs.Option.{is_some};
 ghost use Rattle.refusal.specs.Numbers.{number_of};
-ghost use Rattle.leaf_node.specs.Limits.{PageSize};
+ghost use Rattle.leaf_node.specs.Page.{count};
+ghost use Rattle.leaf_node.specs.Steps.{Laid};
 ghost use Rattle.leaf_work.specs.Tests.{lent_key};
 ghost use Rattle.leaf_work.specs.Verdict.{follows_verdict, next_base_verdict, remove_verdict};
-ghost use Rattle.leaf_work.specs.Outcome.{reply_number, Changed, next_base_work, next_base_of, remove_work, remove_cutoff_of};
-ghost use Rattle.leaf_open.specs.Opening.{key_or_zeros, work_after};
+ghost use Rattle.leaf_work.specs.Outcome.{next_base_work, next_base_of, remove_work, remove_cutoff_of};
+ghost use Rattle.leaf_open.specs.Opening.{key_or_zeros};
+ghost use Rattle.leaf_again.specs.Again.{WorkAnswers};
 
 use bit_ops::less;
 use leaf_base::base_verdict;
 use leaf_check::closed_verdict;
-use leaf_node::{LeafNode, PAGE_SIZE};
-use leaf_open::key_or_zeros;
-use leaf_work::{Entry, Work};
+use leaf_node::{PAGE, Size, count_of, size_between};
+use leaf_open::{Base, key_or_zeros};
+use leaf_work::{Entry, Room, Work};
 use refusal::Refusal;
 
-// What refuses a good page as the next base of a sound work that isn't open.
+// What refuses a good page as the next base of a sound work that isn't open, where list and store have this room.
 pub fn follows_verdict(
     work: &Work,
-    node: LeafNode,
+    page: &[u8],
     separator: &[u8; 32],
-    entries: usize,
-    bytes: usize,
+    room: Room,
 ) -> Result<(), Refusal>
-    requires { (node.n ≤ entries) × (length node.page.now ≤ bytes) }
-    ensures { number_of result ≡ follows_verdict work.now node.entry.page.now separator.now entries bytes }
+    requires { (Laid page.now (count page.now)) × (count page.now ≤ room.entries) × (length page.now ≤ room.bytes) }
+    ensures { number_of result ≡ follows_verdict work.now page.now separator.now room.entries room.bytes }
 {
     if work.cut == 0 {
         return Err(Refusal::OutOfTurn);
@@ -36,10 +37,11 @@ pub fn follows_verdict(
     if less(separator, &work.cutoff) {
         return Err(Refusal::KeyTooLow);
     }
-    if entries - node.n < work.count {
+    let n = count_of(page);
+    if room.entries - n < work.count {
         return Err(Refusal::ListFull);
     }
-    if bytes - node.size_between(0, node.n) < work.bytes {
+    if room.bytes - size_between(page, n, 0, n) < work.bytes {
         return Err(Refusal::StoreFull);
     }
     Ok(())
@@ -50,17 +52,15 @@ fn next_base_verdict(
     work: &Work,
     list: &[Entry],
     store: &[u8],
-    page: &[u8],
-    separator: &[u8; 32],
+    base: Base,
     cutoff: Option<&[u8; 32]>,
-    size: usize,
+    size: Size,
 ) -> Result<(), Refusal>
-    requires { PageSize size }
-    ensures { number_of result ≡ next_base_verdict size work.now list.now store.now page.now separator.now (lent_key cutoff.entry) }
+    ensures { number_of result ≡ next_base_verdict size.bytes work.now list.now store.now base.entry.page.now base.entry.separator.now (lent_key cutoff.entry) }
 {
-    let node = base_verdict(page, separator, cutoff, size)?;
+    base_verdict(base.page, base.separator, cutoff, size)?;
     closed_verdict(work, list, store, size)?;
-    follows_verdict(work, node, separator, list.len(), store.len())
+    follows_verdict(work, base.page, base.separator, Room::of(list, store))
 }
 
 pub fn next_base_work(work: &Work, separator: &[u8; 32], cutoff: Option<&[u8; 32]>) -> Work
@@ -87,16 +87,15 @@ pub fn next_base(
     separator: &[u8; 32],
     cutoff: Option<&[u8; 32]>,
 ) -> Result<Work, Refusal>
-    ensures { (let o : Changed = next_base_of 4096 work.now list.now store.now page.now separator.now (is_some cutoff.entry) (key_or_zeros cutoff.entry) in (number_of result ≡ reply_number o.reply) × (work_after work.now result ≡ o.work)) }
+    ensures { WorkAnswers (next_base_of 4096 work.now list.now store.now page.now separator.now (is_some cutoff.entry) (key_or_zeros cutoff.entry)) work.now result }
 {
-    next_base_verdict(work, list, store, page, separator, cutoff, PAGE_SIZE)?;
+    next_base_verdict(work, list, store, Base { page, separator }, cutoff, PAGE)?;
     Ok(next_base_work(work, separator, cutoff))
 }
 
 // What refuses a cutoff removal.
-fn remove_verdict(work: &Work, list: &[Entry], store: &[u8], size: usize) -> Result<(), Refusal>
-    requires { PageSize size }
-    ensures { number_of result ≡ remove_verdict size work.now list.now store.now }
+fn remove_verdict(work: &Work, list: &[Entry], store: &[u8], size: Size) -> Result<(), Refusal>
+    ensures { number_of result ≡ remove_verdict size.bytes work.now list.now store.now }
 {
     closed_verdict(work, list, store, size)?;
     if !work.is_waiting() {
@@ -120,8 +119,8 @@ pub fn remove_work(work: &Work) -> Work
 
 // Cutoff removal: what is listed stays, and there is no base.
 pub fn remove_cutoff(work: &Work, list: &[Entry], store: &[u8]) -> Result<Work, Refusal>
-    ensures { (let o : Changed = remove_cutoff_of 4096 work.now list.now store.now in (number_of result ≡ reply_number o.reply) × (work_after work.now result ≡ o.work)) }
+    ensures { WorkAnswers (remove_cutoff_of 4096 work.now list.now store.now) work.now result }
 {
-    remove_verdict(work, list, store, PAGE_SIZE)?;
+    remove_verdict(work, list, store, PAGE)?;
     Ok(remove_work(work))
 }

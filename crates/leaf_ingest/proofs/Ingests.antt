@@ -17,22 +17,18 @@ use Rattle.leaf_work.specs.Sound.{lets_in}
 use Rattle.leaf_work.specs.TakingUp.{value_of, entries_with, stop, rest_after, new_entries, count_after, bytes_after}
 use Rattle.leaf_work.specs.Verdict.{lent_verdict, ingest_verdict}
 use Rattle.leaf_work.specs.Outcome as outcome
+use Rattle.leaf_work.specs.Ready.{Ready}
 use Rattle.leaf_work.proofs.Tests.{passed}
 use Rattle.leaf_work.proofs.Readiness as readiness
 use Rattle.leaf_ingest.specs.declared.Kept.{Kept}
-use Rattle.leaf_ingest.specs.Steps.{Taken, ingest_work_by, Takes}
+use Rattle.leaf_ingest.specs.Steps.{Taken, ingest_work_by}
 use Rattle.leaf_ingest.proofs.Numbers.{range_length, range_total}
 
 -- ---- what is required
 
 pub accepted_things_take_an_ingest : (size : ℕ) (w : Work) (list : List Entry) (store page : List ℕ) (v : ℕ) → v ≡ lent_verdict size w list store page → v ≡ 0 → PageSize size
-    → (p : List ℕ) → p ≡ regarded w page → Takes size w list store p
-accepted_things_take_an_ingest size w list store page v e z q p r =
-    let y : lent_verdict size w list store page ≡ 0 = sym e ∙ z in
-    rw r (record {
-      sized = q;
-      ready = readiness.accepted_things_are_ready size w list store page y q;
-    })
+    → (p : List ℕ) → p ≡ regarded w page → Ready w list store p
+accepted_things_take_an_ingest size w list store page v e z q p r = rw r (readiness.accepted_things_are_ready size w list store page (sym e ∙ z) q)
 
 -- the rows that an accepted ingest passed
 pub record Passed (size : ℕ) (w : Work) (list : List Entry) (store page k : List ℕ) (c : Option Change) : Type 0 where

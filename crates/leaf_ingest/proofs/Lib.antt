@@ -2,6 +2,5 @@
 pub mod Keeping
 pub mod Numbers
 pub mod Splicing
-pub mod Writing
 pub mod Ingests
 pub mod Repeated

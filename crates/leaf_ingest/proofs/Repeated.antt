@@ -17,14 +17,13 @@ use Rattle.leaf_model.proofs.Lists.{all_append, all_map}
 use Rattle.leaf_work.specs.declared.Work.{Work}
 use Rattle.leaf_work.specs.declared.Entry.{Entry}
 use Rattle.leaf_work.specs.Tests.{bit}
-use Rattle.leaf_work.specs.Lent.{blank, chunk_of, insert_at, regarded}
+use Rattle.leaf_work.specs.Lent.{blank, chunk_of, insert_at}
 use Rattle.leaf_work.specs.TakingUp.{value_of, chunk_entries, insert_entries, stop, low_after, new_entries}
 use Rattle.leaf_work.specs.Verdict.{ingest_verdict}
 use Rattle.leaf_work.specs.Outcome as outcome
 use Rattle.leaf_work.specs.Ready.{EntryIn, Ready}
 use Rattle.leaf_work.proofs.Searching.{Split, the_search_splits_the_rest}
 use Rattle.leaf_builder.proofs.Putting.{length_put}
-use Rattle.leaf_ingest.specs.Steps.{Takes}
 use Rattle.leaf_ingest.proofs.Numbers.{range_length, range_total}
 use Rattle.leaf_ingest.proofs.Ingests.{Passed, passed_rows}
 
@@ -43,9 +42,9 @@ one_of_all ys (cons p a) (suc i) h = one_of_all ys a i (omega arith)
 still_in : {low filled low' filled' : ℕ} → low ≤ low' → filled ≤ filled' → (e : Entry) → EntryIn low filled e → EntryIn low' filled' e
 still_in l f e h = record { insert = λ q. ((h.insert q).0, omega (arith, (h.insert q).1)); chunk = λ q. ((h.chunk q).0, omega (arith, (h.chunk q).1)) }
 
-module _ (size : ℕ) (w : Work) (list : List Entry) (store page k : List ℕ) (c : Option Change) (t : Takes size w list store page) where
+module _ (size : ℕ) (w : Work) (list : List Entry) (store page k : List ℕ) (c : Option Change) (r : Ready w list store page) where
   split : Split w page k
-  split = the_search_splits_the_rest w page k t.ready.low_in
+  split = the_search_splits_the_rest w page k r.low_in
 
   abbrev chunk : List Entry
   chunk = chunk_entries w.low (stop w page k) (values_size page w.low (stop w page k))
@@ -85,14 +84,14 @@ module _ (size : ℕ) (w : Work) (list : List Entry) (store page k : List ℕ) (
           arith,
           rows_passed.list_room,
           range_length page w.low (stop w page k),
-          t.ready.used_few,
+          r.used_few,
           length-append chunk (insert_entries w.filled k c),
           chunk_few,
           insert_few c,
         )
 
     store_room : w.filled + length (value_of c) ≤ length store
-    store_room = omega (arith, rows_passed.store_room, t.ready.filled_few)
+    store_room = omega (arith, rows_passed.store_room, r.filled_few)
 
     abbrev list' : List Entry
     list' = (outcome.ingest_done size w list store page k c).list
@@ -112,14 +111,13 @@ module _ (size : ℕ) (w : Work) (list : List Entry) (store page k : List ℕ) (
     listed_in =
         let l : w.low ≤ low_after w page k = omega (arith, split.from, split.to) in
         let f : w.filled ≤ w.filled + length (value_of c) = omega arith in
-        all_append (all_map (still_in l f) (all_taken w.used list t.ready.entries)) (all_append chunk_in (insert_in (low_after w page k) c))
+        all_append (all_map (still_in l f) (all_taken w.used list r.entries)) (all_append chunk_in (insert_in (low_after w page k) c))
 
     listed_length : length (take w.used list ++ new_entries w page k c) ≡ w.used + length (new_entries w page k c)
-    listed_length = length-append (take w.used list) (new_entries w page k c) ∙ ap (λ (n : ℕ). n + length (new_entries w page k c)) (length-take-le w.used list t.ready.used_in)
+    listed_length = length-append (take w.used list) (new_entries w page k c) ∙ ap (λ (n : ℕ). n + length (new_entries w page k c)) (length-take-le w.used list r.used_in)
 
     ready_again : Ready (outcome.ingest_work size w list store page k c) list' store' page
     ready_again =
-        let r = t.ready in
         let n = range_length page w.low (stop w page k) in
         let m = range_length page (low_after w page k) (count page) in
         record {
@@ -152,17 +150,9 @@ module _ (size : ℕ) (w : Work) (list : List Entry) (store page k : List ℕ) (
   unfolding outcome.ingest_on
   refused e = rw (e, outcome.ingest_on)
 
-  pub an_ingest_leaves_what_the_next_one_requires : Takes size after.work after.list after.store page
+  pub an_ingest_leaves_what_the_next_one_requires : Ready after.work after.list after.store page
   an_ingest_leaves_what_the_next_one_requires = go (eqb (ingest_verdict size w list store page k c 0) 0) refl
     where
-      go : (b : Bool) → eqb (ingest_verdict size w list store page k c 0) 0 ≡ b → Takes size after.work after.list after.store page
-      go true e = rw (accepted e) (record { sized = t.sized; ready = ready_again (eqb-true _ _ e) })
-      go false e = rw (refused e) t
-
-  -- the next one regards the same bytes of a lent page
-  pub an_ingest_keeps_what_the_work_regards : (lent : List ℕ) → regarded after.work lent ≡ regarded w lent
-  an_ingest_keeps_what_the_work_regards lent = go (eqb (ingest_verdict size w list store page k c 0) 0) refl
-    where
-      go : (b : Bool) → eqb (ingest_verdict size w list store page k c 0) 0 ≡ b → regarded after.work lent ≡ regarded w lent
-      go true e = rw (accepted e)
-      go false e = rw (refused e)
+      go : (b : Bool) → eqb (ingest_verdict size w list store page k c 0) 0 ≡ b → Ready after.work after.list after.store page
+      go true e = rw (accepted e) (ready_again (eqb-true _ _ e))
+      go false e = rw (refused e) r

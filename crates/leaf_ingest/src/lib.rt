@@ -2,23 +2,22 @@
 // Ported from nomt/src/beatree/ops/update/leaf_updater.rs of thrumdev/nomt: `LeafUpdater::ingest`, `keep_up_to` and `BaseLeaf::find_key`.
 #![tactic(auto)]
 
-ghost use Rattle.std.specs.Prelude.{◌≡◌, true, ◌+◌, ◌-◌, ◌≤◌, ◌<◌, length, IfOk};
+ghost use Rattle.std.specs.Prelude.{◌≡◌, true, ◌+◌, ◌≤◌, length};
+ghost use Rattle.refusal.specs.Refusal.{accepted};
 ghost use Rattle.refusal.specs.Numbers.{number_of};
-ghost use Rattle.leaf_node.specs.Limits.{PageSize};
-ghost use Rattle.leaf_node.specs.Page.{count};
+ghost use Rattle.leaf_node.specs.Steps.{Readable};
 ghost use Rattle.leaf_work.specs.Tests.{bit};
 ghost use Rattle.leaf_work.specs.TakingUp.{value_of};
-ghost use Rattle.leaf_work.specs.Verdict.{ingest_verdict};
 ghost use Rattle.leaf_work.specs.Outcome.{report_by};
 ghost use Rattle.leaf_ingest.specs.Reply.{change_of, report_of};
-ghost use Rattle.leaf_ingest.specs.Steps.{Base, KeptAt, Taken, Sizes, Takes, room_verdict, step_verdict, added_by, ingest_work_by};
+ghost use Rattle.leaf_ingest.specs.Steps.{Base, KeptAt, Taken, Sizes, key_verdict, room_verdict, added_by, ingest_work_by};
 
 use leaf_check::lets_in;
-use leaf_node::{Cell, LeafNode};
-use leaf_work::{Entry, Work};
+use leaf_node::{Cell, LeafNode, Size, cell_at};
+use leaf_work::{Room, Work};
 use refusal::Refusal;
 
-// A new value with its flag, or a deletion.
+// A new value with its flag, or a deletion: two cases that the papers name, and so no `Option`.
 #[derive(Clone, Copy)]
 pub enum Change<'a> {
     Put { value: &'a [u8], flag: bool },
@@ -26,7 +25,8 @@ pub enum Change<'a> {
 }
 
 // What a key takes up of the base: its records up to `stop`. The one at `stop` is dropped where it has the key, and `low` is then
-// where the rest begins. `taken` and `rest` are the value bytes of both.
+// where the rest begins. `taken` and `rest` are the value bytes of both. `dropped` is no `Option`, since the other fields are the
+// same whether or not a record has the key: the records before it are taken up, the ones behind are the rest.
 #[derive(Clone, Copy)]
 pub struct Kept {
     pub stop: usize,
@@ -75,7 +75,7 @@ fn kept_at(node: LeafNode, low: usize, stop: usize, dropped: bool) -> Kept
 }
 
 // The base's records are kept up to the key.
-fn keep_up_to(work: &Work, node: LeafNode, key: &[u8; 32]) -> Kept
+pub fn keep_up_to(work: &Work, node: LeafNode, key: &[u8; 32]) -> Kept
     requires { Base work.now node.page.now node.n }
     ensures { Taken work.now node.entry.page.now key.now result }
 {
@@ -97,47 +97,14 @@ fn keep_up_to(work: &Work, node: LeafNode, key: &[u8; 32]) -> Kept
 
 // ---- what refuses it
 
-// Nos. 15 and 16 of a change that lists `added` records with `len` bytes.
-fn room_verdict(
-    work: &Work,
-    kept: Kept,
-    n: usize,
-    added: usize,
-    len: usize,
-    entries: usize,
-    bytes: usize,
-) -> Result<(), Refusal>
-    requires { (Sizes work.now kept added) × (kept.low ≤ n) × (n ≤ 32767) × (len ≤ 32767) }
-    ensures { number_of result ≡ room_verdict work.now kept n added len entries bytes }
-{
-    if entries < work.count + (kept.stop - work.low) + added + (n - kept.low) {
-        return Err(Refusal::ListFull);
-    }
-    if bytes < work.bytes + kept.taken + len + kept.rest {
-        return Err(Refusal::StoreFull);
-    }
-    Ok(())
-}
-
-// Nos. 9 and 12 to 16.
-fn verdict(
-    work: &Work,
-    kept: Kept,
-    n: usize,
-    key: &[u8; 32],
-    added: usize,
-    len: usize,
-    entries: usize,
-    bytes: usize,
-    size: usize,
-) -> Result<(), Refusal>
-    requires { (PageSize size) × (Sizes work.now kept added) × (kept.low ≤ n) × (n ≤ 32767) }
-    ensures { number_of result ≡ step_verdict size work.now kept n key.now added len entries bytes }
+// Nos. 9 and 12 to 14: what refuses the key and its change.
+pub fn key_verdict(work: &Work, key: &[u8; 32], change: Change, size: Size) -> Result<(), Refusal>
+    ensures { number_of result ≡ key_verdict size.bytes work.now key.now (change_of change.entry) accepted }
 {
     if !work.is_open() {
         return Err(Refusal::OutOfTurn);
     }
-    if (size - 2) / 3 - 32 < len {
+    if size.value_limit() < change.value().len() {
         return Err(Refusal::LongValue);
     }
     if !lets_in(*work, key) {
@@ -146,46 +113,37 @@ fn verdict(
     if !work.is_in_scope(key) {
         return Err(Refusal::KeyPastCutoff);
     }
-    room_verdict(work, kept, n, added, len, entries, bytes)
+    Ok(())
 }
 
-// What the key takes up, of an ingest whose lent things earn no refusal; or what refuses it.
-pub fn admit(
+// Nos. 15 and 16: what is pending then has no room.
+pub fn room_verdict(
     work: &Work,
-    list: &[Entry],
-    store: &[u8],
+    kept: Kept,
     node: LeafNode,
-    key: &[u8; 32],
     change: Change,
-    size: usize,
-) -> Result<Kept, Refusal>
-    requires { Takes size work.now list.now store.now node.page.now }
-    ensures number { number_of result ≡ ingest_verdict size work.now list.now store.now node.entry.page.now key.now (change_of change.entry) 0 }
-    ensures kept { IfOk result (λ kept. Taken work.now node.entry.page.now key.now kept) }
+    room: Room,
+) -> Result<(), Refusal>
+    requires { (Sizes work.now kept) × (kept.low ≤ node.n) × (length (value_of (change_of change)) ≤ 32767) }
+    ensures { number_of result ≡ room_verdict work.now kept node.entry.n (change_of change.entry) room.entries room.bytes }
 {
-    let kept = keep_up_to(work, node, key);
-    let added = change.added();
-    let len = change.value().len();
-    verdict(
-        work,
-        kept,
-        node.n,
-        key,
-        added,
-        len,
-        list.len(),
-        store.len(),
-        size,
-    )?;
-    Ok(kept)
+    let count = work.count + (kept.stop - work.low) + change.added();
+    if room.entries < count + (node.n - kept.low) {
+        return Err(Refusal::ListFull);
+    }
+    let bytes = work.bytes + kept.taken + change.value().len();
+    if room.bytes < bytes + kept.rest {
+        return Err(Refusal::StoreFull);
+    }
+    Ok(())
 }
 
 // ---- an accepted ingest
 
 // A flagged record that is dropped is reported: every one, or where one was taken up before it.
-pub fn report_of(every: bool, low: usize, node: LeafNode, kept: Kept) -> Option<Cell>
-    requires { kept.dropped ≡ true → kept.stop < node.n }
-    ensures { report_of result ≡ report_by every low node.entry.page.now kept.stop kept.dropped }
+pub fn report_of(every: bool, low: usize, page: &[u8], kept: Kept) -> Option<Cell>
+    requires { kept.dropped ≡ true → Readable page.now kept.stop }
+    ensures { report_of result ≡ report_by every low page.now kept.stop kept.dropped }
 {
     if !kept.dropped {
         return None;
@@ -193,7 +151,7 @@ pub fn report_of(every: bool, low: usize, node: LeafNode, kept: Kept) -> Option<
     if !every & (kept.stop <= low) {
         return None;
     }
-    let cell = node.cell(kept.stop);
+    let cell = cell_at(page, kept.stop);
     if cell.flag {
         return Some(cell);
     }
@@ -208,7 +166,7 @@ pub fn ingest_work(
     added: usize,
     len: usize,
 ) -> Work
-    requires { (Sizes work.now kept added) × (work.now.filled + len ≤ 65536) }
+    requires { (Sizes work.now kept) × (added ≤ 1) × (work.now.filled + len ≤ 65536) }
     ensures { result ≡ ingest_work_by work.now key.now kept used added len }
 {
     Work {

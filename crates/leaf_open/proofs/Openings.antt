@@ -38,7 +38,10 @@ module _ (size : ℕ) (base : std.Option Base) (cutoff : std.Option (Bor (List �
   pub the_base_comes_first : (v ≡ 0 → ⊥) → v ≡ open_verdict size (opening_lent base cutoff) list store
   the_base_comes_first h = rw (base_then_room size list store base cutoff, ← e) (sym (first_refused v _ h))
 
-  module _ (z : v ≡ 0) (t : Bool) (q : t ≡ room_right size (length list) (length store)) where
+  module _ (z : v ≡ 0) (t : Bool) (entries bytes : ℕ) (i : entries ≡ length list) (j : bytes ≡ length store) (r : t ≡ room_right size entries bytes) where
+    q : t ≡ room_right size (length list) (length store)
+    q = r ∙ rw (i, j)
+
     pub wrong_room_has_number_7 : not t ≡ true → 7 ≡ open_verdict size (opening_lent base cutoff) list store
     wrong_room_has_number_7 h = rw (base_then_room size list store base cutoff, ← e, z, ← q, not-true t h)
 

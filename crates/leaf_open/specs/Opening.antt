@@ -1,13 +1,16 @@
 -- An opening by its arguments. Document 01, "A work and its turns".
-use Rattle.std.specs.Prelude.{Bool, true, false, not, List, ℕ, Option, Some, None, Result, Ok, Err}
+use Rattle.std.specs.Prelude.{◌≡◌, Bool, true, false, not, List, ℕ, Option, Some, None, Result, Ok, Err}
 use Rattle.std.specs.Borrow.{Bor}
 use Rattle.std.specs.Option.{is_some}
 use Rattle.refusal.specs.declared.Refusal.{Refusal}
 use Rattle.refusal.specs.Refusal.{accepted, bad_bounds}
+use Rattle.refusal.specs.Numbers.{number_of}
 use Rattle.leaf_model.specs.Work.{zero_key, or_else}
 use Rattle.leaf_work.specs.declared.Work.{Work}
+use Rattle.leaf_work.specs.declared.Entry.{Entry}
 use Rattle.leaf_work.specs.Tests.{lent_key}
 use Rattle.leaf_work.specs.Verdict.{unless, base_verdict, Opening, with_base_lem, with_none}
+use Rattle.leaf_work.specs.Outcome.{reply_number, Opened}
 use Rattle.leaf_open.specs.declared.Base.{Base}
 
 -- "Opening: with a base (page, separator, optional cutoff), or with none and no cutoff."
@@ -37,3 +40,8 @@ open_base_verdict size None cutoff = unless bad_bounds (not (is_some cutoff)) ac
 abbrev pub work_after : Work → Result Work Refusal → Work
 work_after held (Ok work) = work
 work_after held (Err refusal) = held
+
+-- an opening with the outcome o: what it answers, and what is lent after it
+abbrev pub OpenAnswers : Opened → Work → Result Work Refusal → List Entry → List ℕ → Type 0
+OpenAnswers o held answer list' store' =
+    (number_of answer ≡ reply_number o.reply) × (work_after held answer ≡ o.work) × (list' ≡ o.list) × (store' ≡ o.store)

@@ -5,17 +5,16 @@
 ghost use Rattle.std.specs.Prelude.{◌≡◌};
 ghost use Rattle.std.specs.Option.{is_some};
 ghost use Rattle.refusal.specs.Numbers.{number_of};
-ghost use Rattle.leaf_node.specs.Limits.{PageSize};
 ghost use Rattle.leaf_work.specs.declared.Work as declared;
 ghost use Rattle.leaf_work.specs.Verdict.{open_verdict};
-ghost use Rattle.leaf_work.specs.Outcome.{reply_number, fresh_work, Opened, open_of};
-ghost use Rattle.leaf_open.specs.Opening.{key_or_zeros, separator_lent, opening_lent, open_base_verdict, work_after};
+ghost use Rattle.leaf_work.specs.Outcome.{fresh_work, open_of};
+ghost use Rattle.leaf_open.specs.Opening.{key_or_zeros, separator_lent, opening_lent, open_base_verdict, OpenAnswers};
 
 use leaf_base::base_verdict;
 use leaf_check::room_right;
 use leaf_entries::blank_entry;
-use leaf_node::PAGE_SIZE;
-use leaf_work::{Entry, Work};
+use leaf_node::{PAGE, Size};
+use leaf_work::{Entry, Room, Work};
 use refusal::Refusal;
 
 // A base to open with: its page and its separator.
@@ -42,10 +41,9 @@ fn separator_of<'a>(base: Option<Base<'a>>) -> Option<&'a [u8; 32]>
 fn open_base_verdict(
     base: Option<Base>,
     cutoff: Option<&[u8; 32]>,
-    size: usize,
+    size: Size,
 ) -> Result<(), Refusal>
-    requires { PageSize size }
-    ensures { number_of result ≡ open_base_verdict size base.entry cutoff.entry }
+    ensures { number_of result ≡ open_base_verdict size.bytes base.entry cutoff.entry }
 {
     match base {
         Some(base) => {
@@ -67,13 +65,12 @@ fn open_verdict(
     cutoff: Option<&[u8; 32]>,
     list: &[Entry],
     store: &[u8],
-    size: usize,
+    size: Size,
 ) -> Result<(), Refusal>
-    requires { PageSize size }
-    ensures { number_of result ≡ open_verdict size (opening_lent base.entry cutoff.entry) list.now store.now }
+    ensures { number_of result ≡ open_verdict size.bytes (opening_lent base.entry cutoff.entry) list.now store.now }
 {
     open_base_verdict(base, cutoff, size)?;
-    if !room_right(list.len(), store.len(), size) {
+    if !room_right(Room::of(list, store), size) {
         return Err(Refusal::RoomLength);
     }
     Ok(())
@@ -113,9 +110,9 @@ pub fn open(
     list: &mut [Entry],
     store: &mut [u8],
 ) -> Result<Work, Refusal>
-    ensures { (held : declared.Work) → (let o : Opened = open_of 4096 every (opening_lent base.entry cutoff.entry) held list.old store.old in (number_of result ≡ reply_number o.reply) × (work_after held result ≡ o.work) × (list.new ≡ o.list) × (store.new ≡ o.store)) }
+    ensures { (held : declared.Work) → OpenAnswers (open_of 4096 every (opening_lent base.entry cutoff.entry) held list.old store.old) held result list.new store.new }
 {
-    open_verdict(base, cutoff, list, store, PAGE_SIZE)?;
+    open_verdict(base, cutoff, list, store, PAGE)?;
     list.fill(blank_entry());
     store.fill(0);
     Ok(fresh_work(every, separator_of(base), cutoff))

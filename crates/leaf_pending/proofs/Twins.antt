@@ -21,7 +21,7 @@ use Rattle.leaf_work.specs.declared.Entry.{Entry}
 use Rattle.leaf_work.specs.Lent.{blank, reads_base, regarded}
 use Rattle.leaf_work.specs.Pending.{Holder, Store, Base, Place, in_base, chunk_places, insert_place, entry_places, places_of, pending_places}
 use Rattle.leaf_work.specs.Verdict.{lent_verdict}
-use Rattle.leaf_work.specs.Outcome.{TwinReply, TwinRefused, Found, nth_place, twin_on, twin_of, part_by, part_of}
+use Rattle.leaf_work.specs.Outcome.{TwinReply, TwinRefused, Found, nth_place, twin_on, twin_of, part_by}
 use Rattle.leaf_work.specs.Ready.{EntryIn, Ready}
 use Rattle.leaf_work.proofs.Readiness.{accepted_things_are_ready}
 use Rattle.leaf_pending.specs.declared.Place as found
@@ -147,6 +147,3 @@ module _ (size : ℕ) (w : Work) (list : List Entry) (store page : List ℕ) (i 
             held : (d : Holder) → x.holder ≡ d → TwinIn (twin_out (Found x)) store page
             held Store f = record { in_store = λ _. rw f at lies; in_base_lem = λ k. absurd (omega (arith, ap holder_number f)) }
             held Base f = record { in_store = λ k. absurd (omega (arith, ap holder_number f)); in_base_lem = λ _. rw f at lies }
-
-  pub part_of_the_twin : (r : TwinReply) → r ≡ twin_of size w list store page i → (x : List ℕ) → x ≡ part_by store page r → x ≡ part_of size w list store page i
-  part_of_the_twin r e x q = q ∙ ap (part_by store page) e

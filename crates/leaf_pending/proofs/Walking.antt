@@ -6,7 +6,7 @@ use Prim.Native.Nat.{ℕ, zero, suc, ◌+◌, ◌-◌, ◌≤◌, ◌<◌}
 use native.Mathlib.Omega.{arith}
 use native.Mathlib.Numerals.{add-one}
 use lib.Dec.{eqb}
-use lib.ListN.{length, get_or, take, drop, drop_of_length-le}
+use lib.ListN.{length, get_or, drop, drop_of_length-le}
 use lib.Seq.{drop-cons}
 use borrow.Author.Tests.{not-true, not-false}
 use Rattle.leaf_node.specs.Page.{count, start, length_at, flag_at, key_at, run}
@@ -78,9 +78,6 @@ module _ (p : List ℕ) (e : Entry) (t : Bool) (q : t ≡ eqb e.kind 1) where
     many_records : records_in e ≡ e.to - e.from
     many_records = rw (← q, not-true t h)
 
-    pub chunk_order : (i : ℕ) → i < records_in e → e.from + i < e.to
-    chunk_order i k = omega (arith, many_records)
-
     pub chunk_record_is_found : (i : ℕ) → i < records_in e → (x : Place) → x ≡ in_base p (e.from + i) → Found x ≡ nth_place i (entry_places p e)
     chunk_record_is_found i k x f = rw (chunk_places_lem, f) (sym (run_at p (e.to - e.from) e.from i (omega (arith, many_records))))
 
@@ -98,9 +95,6 @@ pub record Left (w : Work) (list : List Entry) (p : List ℕ) (i : ℕ) (used : 
   pub same : nth_place i (pending_places w list p) ≡ nth_place left (places_of p (drop j used) ++ chunk_places p w.low (count p))
 
 module _ (w : Work) (list : List Entry) (p : List ℕ) (i : ℕ) where
-  pub all_are_left : Left w list p i (take w.used list) 0 i
-  all_are_left = record { same = refl }
-
   module _ (used : List Entry) (j left : ℕ) (l : Left w list p i used j left) where
     pub rest_has_it : length used ≤ j → (r : TwinReply) → r ≡ nth_place left (chunk_places p w.low (count p)) → r ≡ nth_place i (pending_places w list p)
     rest_has_it h r e = let z : drop j used ≡ [] = drop_of_length-le used {i = j} h in e ∙ sym (l.same ∙ rw z)

@@ -10,7 +10,7 @@ ghost use Rattle.leaf_pending.specs.Steps.{EntryRead, Walk, LiesIn};
 
 use leaf_check::lent_base;
 use leaf_entries::records_in_entry;
-use leaf_node::{LeafNode, PAGE_SIZE};
+use leaf_node::{LeafNode, PAGE};
 use leaf_work::{Entry, Work};
 use refusal::Refusal;
 
@@ -124,7 +124,8 @@ fn entry_record(entry: &Entry, node: LeafNode, i: usize) -> Place
     }
 }
 
-// Pending record i: the entries' records, then the base's rest.
+// Pending record i: the entries' records, then the base's rest. It goes on counting records from entry to entry, which no search of
+// the library does.
 fn pending_record(work: &Work, list: &[Entry], node: LeafNode, i: usize) -> Result<Place, Refusal>
     requires { Walk work.now list.now node.n }
     ensures { twin_reply result ≡ nth_place i (pending_places work.now list.now node.entry.page.now) }
@@ -153,7 +154,7 @@ pub fn twin(
     ensures reply { twin_reply result ≡ twin_of 4096 work.now list.now store.now page.now i }
     ensures place { IfOk result (λ place. LiesIn store.now page.now (place_of place)) }
 {
-    let node = lent_base(work, list, store, page, PAGE_SIZE)?;
+    let node = lent_base(work, list, store, page, PAGE)?;
     pending_record(work, list, node, i)
 }
 
@@ -162,10 +163,11 @@ fn part_at<'a>(place: &Place, store: &'a [u8], page: &'a [u8]) -> &'a [u8]
     requires { LiesIn store.now page.now (place_of place.now) }
     ensures { result.now ≡ part_at store.now page.now (place_of place.now) }
 {
-    match place.holder {
-        Holder::Store => &store[place.offset..place.offset + place.len],
-        Holder::Base => &page[place.offset..place.offset + place.len],
-    }
+    let holder = match place.holder {
+        Holder::Store => store,
+        Holder::Base => page,
+    };
+    &holder[place.offset..place.offset + place.len]
 }
 
 // The value of pending record i, as a part of store or page; none where the twin call refuses.

@@ -1,2 +1,3 @@
 -- An ingest's change and reply in numbers, and what it leaves.
 pub mod Reply
+pub mod Listing

@@ -3,18 +3,19 @@
 #![tactic(auto)]
 
 ghost use Rattle.std.specs.Prelude.{◌≡◌, ◌+◌, ◌-◌, ◌≤◌, length};
-ghost use Rattle.leaf_node.specs.Build.{put};
 ghost use Rattle.leaf_work.specs.TakingUp.{value_of, chunk_entries, insert_entries, entries_with};
+ghost use Rattle.leaf_work.specs.Ready.{Ready};
 ghost use Rattle.leaf_work.specs.Outcome.{ingest_on, ingest_of};
 ghost use Rattle.leaf_ingest.specs.Reply.{change_of, reply_of};
-ghost use Rattle.leaf_ingest.specs.Steps.{added_by, Takes};
+ghost use Rattle.leaf_ingest.specs.Steps.{added_by};
 ghost use Rattle.leaf_take.specs.Reply.{change_given, report_out, Leaves};
+ghost use Rattle.leaf_take.specs.Listing.{PutAt, HasRoom};
 
 use leaf_check::lent_base;
 use leaf_entries::{chunk_entry, insert_entry};
-use leaf_ingest::{Change, Kept, admit, ingest_work, report_of};
-use leaf_node::{Cell, LeafNode, PAGE_SIZE, copy_in};
-use leaf_work::{Entry, Work};
+use leaf_ingest::{Change, Kept, ingest_work, keep_up_to, key_verdict, report_of, room_verdict};
+use leaf_node::{Cell, LeafNode, PAGE, Size, copy_in};
+use leaf_work::{Entry, Room, Work};
 use refusal::Refusal;
 
 // An ingest's answer for C: 0 or the refusal; whether a dropped cell is reported, 1 or 0, and its offset and length in the base page.
@@ -72,7 +73,7 @@ pub fn change_of(put: u8, flag: u8, value: &[u8]) -> Change<'_>
 // A chunk behind the used entries, where one is listed; the next unused entry.
 fn put_chunk(list: &mut [Entry], at: usize, low: usize, stop: usize, sum: usize) -> usize
     requires { at + (stop - low) ≤ length list.old }
-    ensures { (result ≡ at + length (chunk_entries low stop sum)) × (result ≤ at + (stop - low)) × (list.new ≡ put list.old at (chunk_entries low stop sum)) }
+    ensures { (PutAt list.old at (chunk_entries low stop sum) result list.new) × (result ≤ at + (stop - low)) }
 {
     if stop <= low {
         return at;
@@ -84,7 +85,7 @@ fn put_chunk(list: &mut [Entry], at: usize, low: usize, stop: usize, sum: usize)
 // An insert behind the used entries, where the change has one; the next unused entry.
 fn put_insert(list: &mut [Entry], at: usize, from: usize, key: &[u8; 32], change: Change) -> usize
     requires { (at + added_by (change_of change) ≤ length list.old) × (from + length (value_of (change_of change)) ≤ 65536) }
-    ensures { (result ≡ at + length (insert_entries from key.now (change_of change.entry))) × (list.new ≡ put list.old at (insert_entries from key.now (change_of change.entry))) }
+    ensures { PutAt list.old at (insert_entries from key.now (change_of change.entry)) result list.new }
 {
     match change {
         Change::Delete => at,
@@ -97,8 +98,8 @@ fn put_insert(list: &mut [Entry], at: usize, from: usize, key: &[u8; 32], change
 
 // The new entries; the next unused one.
 fn put_entries(work: &Work, list: &mut [Entry], kept: Kept, key: &[u8; 32], change: Change) -> usize
-    requires { (work.now.low ≤ kept.stop) × (work.now.used + (kept.stop - work.now.low) + added_by (change_of change) ≤ length list.old) × (work.now.filled + length (value_of (change_of change)) ≤ 65536) }
-    ensures { (result ≡ work.now.used + length (entries_with work.now key.now kept.stop kept.taken (change_of change.entry))) × (list.new ≡ put list.old work.now.used (entries_with work.now key.now kept.stop kept.taken (change_of change.entry))) }
+    requires { HasRoom work.now kept (change_of change) (length list.old) }
+    ensures { PutAt list.old work.now.used (entries_with work.now key.now kept.stop kept.taken (change_of change.entry)) result list.new }
 {
     let at = put_chunk(list, work.used, work.low, kept.stop, kept.taken);
     put_insert(list, at, work.filled, key, change)
@@ -107,6 +108,7 @@ fn put_entries(work: &Work, list: &mut [Entry], kept: Kept, key: &[u8; 32], chan
 // ---- the call
 
 // An ingest into a work whose lent things earn no refusal, so that they aren't checked again; the base is as the work regards it.
+// Its seven things are lent apart by C, or, as the size, belong to none of the others.
 pub fn take_in(
     work: &mut Work,
     list: &mut [Entry],
@@ -114,16 +116,18 @@ pub fn take_in(
     node: LeafNode,
     key: &[u8; 32],
     change: Change,
-    size: usize,
+    size: Size,
 ) -> Result<Option<Cell>, Refusal>
-    requires { Takes size work.old list.old store.old node.page.now }
-    ensures { Leaves (ingest_on size work.old list.old store.old node.entry.page.now key.now (change_of change.entry) 0) result work.new list.new store.new }
+    requires { Ready work.old list.old store.old node.page.now }
+    ensures { Leaves (ingest_on size.bytes work.old list.old store.old node.entry.page.now key.now (change_of change.entry) 0) result work.new list.new store.new }
 {
-    let kept = admit(work, list, store, node, key, change, size)?;
+    key_verdict(work, key, change, size)?;
+    let kept = keep_up_to(work, node, key);
+    room_verdict(work, kept, node, change, Room::of(list, store))?;
     let used = put_entries(work, list, kept, key, change);
     let value = change.value();
     copy_in(value, store, work.filled);
-    let dropped = report_of(work.mode != 0, work.low, node, kept);
+    let dropped = report_of(work.mode != 0, work.low, node.page, kept);
     *work = ingest_work(work, key, kept, used, change.added(), value.len());
     Ok(dropped)
 }
@@ -140,6 +144,6 @@ pub fn ingest(
 ) -> Result<Option<Cell>, Refusal>
     ensures { Leaves (ingest_of 4096 work.old list.old store.old page.now key.now (change_of change.entry)) result work.new list.new store.new }
 {
-    let node = lent_base(work, list, store, page, PAGE_SIZE)?;
-    take_in(work, list, store, node, key, change, PAGE_SIZE)
+    let node = lent_base(work, list, store, page, PAGE)?;
+    take_in(work, list, store, node, key, change, PAGE)
 }

@@ -1,31 +1,33 @@
 -- `leaf_take::take_in` meets its contract.
 -- Assumes nothing.
-use Rattle.refusal.proofs.Refused.{passed_on}
-use Rattle.leaf_take.proofs.Taking.{a_refused_ingest_leaves_all, the_entries_have_room, the_value_has_room, the_value_ends_early, what_is_kept_is_small, an_accepted_ingest_leaves_its_outcome}
+use Rattle.std.proofs.Common.{rules}
+use Rattle.refusal.proofs.Refused.{refused, passed_on}
+use Rattle.leaf_ingest.proofs.Numbers.{the_key_comes_first, the_room_decides, a_fitting_value_is_short, what_is_taken_up_is_small, what_is_taken_up_is_of_the_base}
+use Rattle.leaf_take.proofs.Taking.{a_refused_ingest_leaves_all, an_accepted_ingest_leaves_its_outcome}
 use Rattle.leaf_take.proofs.take_in.Goals as goal
 
-pub returns-in_err-kept : goal.returns-in_err-kept
-returns-in_err-kept c = rw (passed_on _ _ c.from_residual.ensures) (a_refused_ingest_leaves_all _ _ _ _ _ _ _ _ c.in_err-kept.ensures.number)
+pub returns-in_err-key_verdict : goal.returns-in_err-key_verdict
+returns-in_err-key_verdict c =
+    rw (passed_on _ _ c.from_residual.ensures) (a_refused_ingest_leaves_all _ _ _ _ _ _ _ _ (the_key_comes_first _ _ _ _ _ _ _ _ c.in_err-key_verdict.ensures (refused _)))
 
-pub put_entries-used-requires : goal.put_entries-used-requires
-put_entries-used-requires c =
-    let k = c.in_ok-kept.ensures in
-    (k.kept.from, the_entries_have_room _ _ _ _ _ _ _ k.number _ k.kept c.requires, the_value_ends_early _ _ _ _ _ _ _ k.number _ k.kept c.requires)
+pub room_verdict-requires : goal.room_verdict-requires
+room_verdict-requires c =
+    let k = c.keep_up_to-kept.ensures in (
+      what_is_taken_up_is_small _ _ _ _ c.requires _ _ k,
+      what_is_taken_up_is_of_the_base _ _ _ _ _ c.args.node.counted.counted k,
+      search (a_fitting_value_is_short, rules),
+    )
 
-pub copy_in-requires : goal.copy_in-requires
-copy_in-requires c =
-    let k = c.in_ok-kept.ensures in
-    rw c.value-value.ensures (the_value_has_room _ _ _ _ _ _ _ k.number _ k.kept c.requires)
-
-pub ingest_work-requires : goal.ingest_work-requires
-ingest_work-requires c =
-    let k = c.in_ok-kept.ensures in
-    let early = the_value_ends_early _ _ _ _ _ _ _ k.number _ k.kept c.requires in
-    (what_is_kept_is_small _ _ _ _ _ _ _ k.number _ k.kept c.requires _ c.added.ensures.1, rw c.value-value.ensures early)
+pub returns-in_err-room_verdict : goal.returns-in_err-room_verdict
+returns-in_err-room_verdict c =
+    let room = c.of.ensures in
+    let number = the_room_decides _ _ _ _ _ _ _ c.in_ok-key_verdict.ensures _ c.keep_up_to-kept.ensures _ c.args.node.counted.counted _ _ room.0 room.1 _ c.in_err-room_verdict.ensures in
+    rw (passed_on _ _ c.from_residual-in_err-room_verdict.ensures) (a_refused_ingest_leaves_all _ _ _ _ _ _ _ _ number)
 
 pub returns : goal.returns
 returns c =
-    let k = c.in_ok-kept.ensures in
-    let put = c.put_entries-used.ensures in
-    an_accepted_ingest_leaves_its_outcome _ _ _ _ _ _ _ k.number _ k.kept _ c.report_of-dropped.ensures _ _ _ _ _ _
-    put.0 put.1 c.value-value.ensures c.copy_in.ensures c.added.ensures.0 c.ingest_work.ensures
+    let room = c.of.ensures in
+    let k = c.keep_up_to-kept.ensures in
+    let number = the_room_decides _ _ _ _ _ _ _ c.in_ok-key_verdict.ensures _ k _ c.args.node.counted.counted _ _ room.0 room.1 _ c.in_ok-room_verdict.ensures in
+    an_accepted_ingest_leaves_its_outcome _ _ _ _ _ _ _ number _ k _ c.report_of-dropped.ensures _ _ _ _ _ _
+    c.put_entries-used.ensures c.value-value.ensures c.copy_in.ensures c.added.ensures.0 c.ingest_work.ensures

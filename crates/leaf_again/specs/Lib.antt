@@ -1,0 +1,2 @@
+-- What next base and cutoff removal answer.
+pub mod Again
