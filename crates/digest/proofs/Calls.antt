@@ -1,8 +1,8 @@
 -- The call: what an accepted digest may rely on, and what a digest leaves, accepted or refused. Assumes nothing.
-use mathlib.Core.Path.{◌≡◌, refl, sym, ap, subst, ◌∙◌}
+use mathlib.Core.Path.{◌≡◌, refl, sym, ap, ◌∙◌}
 use mathlib.Core.Bool.{true, false}
 use mathlib.Core.List.{List}
-use Prim.Native.Nat.{ℕ, ◌-◌}
+use Prim.Native.Nat.{ℕ}
 use lib.Dec.{eqb}
 use lib.ListN.{length, drop, take, replicate, length-drop, take-append-drop}
 use borrow.Author.Tests.{eq-eqb, ne_eqb}

@@ -1,8 +1,8 @@
 -- A digest of what earns no refusal: what its parts require, and that they make the outcome. Assumes nothing.
-use mathlib.Core.Path.{◌≡◌, refl, sym, ap, subst, ◌∙◌}
+use mathlib.Core.Path.{◌≡◌, sym, ◌∙◌}
 use mathlib.Core.Logic.{inl, inr}
 use mathlib.Core.List.{List}
-use Prim.Native.Nat.{ℕ, ◌+◌, ◌-◌, ◌≤◌, ◌<◌, min}
+use Prim.Native.Nat.{ℕ, ◌+◌, ◌≤◌, ◌<◌}
 use native.Mathlib.Omega.{arith}
 use native.Mathlib.Decide.{dec_lt}
 use lib.ListN.{length}
@@ -11,12 +11,11 @@ use Rattle.leaf_work.specs.declared.Work.{Work}
 use Rattle.leaf_work.specs.declared.Entry.{Entry}
 use Rattle.leaf_work.specs.Digest.{DigestReply, Finished, Merge}
 use Rattle.leaf_give.specs.declared.Progress.{Progress}
-use Rattle.leaf_give.specs.Giving.{pending, Gives, GivenOut}
+use Rattle.leaf_give.specs.Giving.{pending, GivenOut}
 use Rattle.leaf_merge.specs.Keeping.{RoomToKeep, KeptAs}
 use Rattle.leaf_digest.specs.Steps.{digest_work_by, Digests, Leaves}
-use Rattle.leaf_digest.proofs.Digesting.{what_is_left_can_be_kept_below, nothing_left_is_done, what_is_left_waits_for_a_merge}
+use Rattle.leaf_digest.proofs.Digesting.{nothing_left_is_done, what_is_left_waits_for_a_merge}
 use Rattle.digest_keep.specs.Lifting.{room_by}
-use Rattle.digest_keep.specs.Keeping.{KeepsIn}
 use Rattle.digest.specs.Steps.{reply_by, Ready, outcome_of}
 
 -- ---- the reply, by how many records are left
@@ -35,9 +34,6 @@ module _ (size : ℕ) (w : Work) (list : List Entry) (store page area tickets : 
   d : Digests size w list store page area tickets
   d = req.digests
 
-  pub its_leaves_can_be_given : Gives size w list store page area tickets
-  its_leaves_can_be_given = d.gives
-
   module _ (p : Progress) (area' tickets' : List ℕ) (g : GivenOut size w list store page area tickets p area' tickets') where
     abbrev room : ℕ
     room = room_by w.used p.left.count (length list)
@@ -53,12 +49,6 @@ module _ (size : ℕ) (w : Work) (list : List Entry) (store page area tickets : 
       | yes h ↦ inr (omega (arith, bounds.2 h))
       | no h ↦ elim d.room [ inl a ↦ inl (omega (arith, h, a)) | inr a ↦ inr (omega (arith, h, a, g.count_is)) ]
     ]
-
-    pub what_is_left_can_be_kept : KeepsIn w list store page p.at p.left
-    what_is_left_can_be_kept = record {
-      keeps = what_is_left_can_be_kept_below size w list store page area tickets d p area' tickets' g room bounds.0 used_room enough;
-      unused = req.unused;
-    }
 
     module _ (list' : List Entry) (store' : List ℕ) (k : KeptAs w list store page p.at list' store') (reply : DigestReply) (r : reply ≡ reply_by w p) (next : Work) (e : next ≡ digest_work_by w p.left p.separator) where
       pub the_outcome_is_made : Leaves (outcome_of size w list store page area tickets) reply next list' store' area' tickets'

@@ -10,10 +10,11 @@ ghost use Rattle.leaf_digest.specs.Steps.{Leaves};
 ghost use Rattle.digest.specs.Steps.{outcome_of, reply_by, Ready};
 
 use digest_keep::prepare_merge_ops;
+use digest_leaf::Pending;
 use digest_leaves::give_leaves;
 use leaf_digest::{Given, digest_base, digest_work};
 use leaf_give::Progress;
-use leaf_node::{LeafNode, PAGE_SIZE};
+use leaf_node::{LeafNode, PAGE, Size};
 use leaf_work::{Entry, Work};
 use refusal::Refusal;
 
@@ -28,7 +29,8 @@ fn given_by(work: &Work, p: Progress) -> Given
     }
 }
 
-// A digest of a work whose lent things earn no refusal and whose leaves have room; the base is as the work regards it.
+// A digest of a work whose lent things earn no refusal and whose leaves have room; the base is as the work regards it. What it changes is lent
+// alone by C, each in its own place.
 pub fn digest_ready(
     work: &mut Work,
     list: &mut [Entry],
@@ -36,12 +38,18 @@ pub fn digest_ready(
     node: LeafNode,
     area: &mut [u8],
     tickets: &mut [u8],
-    size: usize,
+    size: Size,
 ) -> Given
-    requires { Ready size work.old list.old store.old node.page.now area.old tickets.old }
-    ensures { Leaves (outcome_of size work.old list.old store.old node.entry.page.now area.old tickets.old) (given_of result) work.new list.new store.new area.new tickets.new }
+    requires { Ready size.bytes work.old list.old store.old node.page.now area.old tickets.old }
+    ensures { Leaves (outcome_of size.bytes work.old list.old store.old node.entry.page.now area.old tickets.old) (given_of result) work.new list.new store.new area.new tickets.new }
 {
-    let p = give_leaves(work, list, store, node, area, tickets, size);
+    let pending = Pending {
+        work,
+        list,
+        store,
+        node,
+    };
+    let p = give_leaves(pending, area, tickets, size);
     prepare_merge_ops(work, list, store, node, p.at, p.left);
     let given = given_by(work, p);
     *work = digest_work(work, p.left, &p.separator);
@@ -76,7 +84,7 @@ pub fn digest(
     ensures { Leaves (digest_of 4096 work.old list.old store.old page.now area.old tickets.old) (reply_of result) work.new list.new store.new area.new tickets.new }
 {
     read_keys(list);
-    let node = digest_base(work, list, store, page, area, tickets, PAGE_SIZE)?;
-    let given = digest_ready(work, list, store, node, area, tickets, PAGE_SIZE);
+    let node = digest_base(work, list, store, page, area, tickets, PAGE)?;
+    let given = digest_ready(work, list, store, node, area, tickets, PAGE);
     Ok(given)
 }

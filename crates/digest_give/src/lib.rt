@@ -3,35 +3,33 @@
 #![tactic(auto)]
 
 ghost use Rattle.std.specs.Prelude.{length};
-ghost use Rattle.leaf_work.specs.Tests.{lent_key};
-ghost use Rattle.leaf_give.specs.Steps.{LeafThere, LeafGiven};
+ghost use Rattle.digest_give.specs.Leaf.{TakenThere, TakenGiven};
 
-use digest_leaf::{build_leaf, op_first_key};
-use leaf_cut::{Cursor, Gauge, Span};
+use digest_leaf::Pending;
+use leaf_cut::{Gauge, Taken};
 use leaf_give::{Progress, give_ticket};
-use leaf_node::LeafNode;
-use leaf_work::Entry;
+use leaf_node::Size;
+use leaf_write::next_separator;
 
-// Gives out a leaf, behind which stands the cursor `at`: its page and its ticket.
+// Gives out a leaf that was taken off what is pending: its page and its ticket.
 pub fn give_leaf(
-    list: &[Entry],
-    store: &[u8],
-    node: LeafNode,
-    span: Span,
+    pending: Pending,
     p: Progress,
-    leaf: Gauge,
-    at: Cursor,
-    cutoff: Option<&[u8; 32]>,
+    taken: Taken,
     area: &mut [u8],
     tickets: &mut [u8],
-    size: usize,
+    size: Size,
 ) -> Progress
-    requires { LeafThere size list.now store.now node.page.now span p leaf at (length area.old) (length tickets.old) }
-    ensures { LeafGiven size list.now store.now node.entry.page.now span p leaf at (lent_key cutoff.entry) area.old tickets.old result area.new tickets.new }
+    requires { TakenThere size.bytes pending p taken (length area.old) (length tickets.old) }
+    ensures { TakenGiven size.bytes pending.entry p taken area.old tickets.old result area.new tickets.new }
 {
-    let from = p.leaves * size;
-    let to = from + size;
-    build_leaf(list, store, node, span, p.at, leaf, &mut area[from..to]);
-    let first = op_first_key(list, node, span, at);
-    give_ticket(first, p, leaf, at, cutoff, &area[from..to], tickets)
+    let from = p.leaves * size.bytes;
+    let to = from + size.bytes;
+    pending.build_leaf(p.at, Gauge::from(taken.end), &mut area[from..to]);
+    let cutoff = pending.work.cutoff();
+    let Some(key) = pending.next_key(taken.at) else {
+        return give_ticket(p, taken, None, cutoff, tickets);
+    };
+    let next = next_separator(&area[from..to], taken.end.count - 1, key);
+    give_ticket(p, taken, Some(&next), cutoff, tickets)
 }

@@ -6,7 +6,6 @@ use native.Mathlib.Omega.{arith}
 use lib.ListN.{length, take, drop, replicate, length-append, replicate-append-replicate}
 use lib.Seq.{length-take-le, take_at, drop_at, drop-drop}
 use Rattle.leaf_node.specs.Record.{Record}
-use Rattle.leaf_node.specs.Page.{count}
 use Rattle.leaf_work.specs.declared.Work.{Work}
 use Rattle.leaf_work.specs.declared.Entry.{Entry}
 use Rattle.leaf_work.specs.Lent.{blank}
@@ -61,9 +60,6 @@ module _ {A : Type 0} where
         ap (λ (k : ℕ). drop k xs) (sym a) ∙ sym (drop-drop (t - used) used xs) ∙ ap (drop (t - used)) b ∙ drop_replicate (t - used) (length xs - used) x ∙ ap (λ (k : ℕ). replicate k x) c in
         rw (settled_is, rest_is, rest) (append_assoc new (replicate (t - length new) x) (replicate (length xs - t) x)
         ∙ ap (λ (l : List A). new ++ l) (replicate-append-replicate (t - length new) (length xs - t) x ∙ ap (λ (k : ℕ). replicate k x) d))
-
-pub as_many_stand_there : (list : List Entry) (room count : ℕ) → (count ≤ room) × (room ≤ length list) → count ≤ length (take room list)
-as_many_stand_there list room count h = omega (arith, length-take-le room list h.1, h.0)
 
 module _ (w : Work) (list : List Entry) (store page : List ℕ) (at : Cursor) (left : Gauge) (req : KeepsIn w list store page at left)
     (span : Span) (es : span ≡ record { used = w.used; low = w.low }) (room : ℕ) (er : room ≡ room_by w.used left.count (length list)) where

@@ -109,6 +109,9 @@ module _ (list : List Entry) (store page : List ℕ) (s : Span) (at : Cursor) (t
 
 -- ---- part after part
 
+pub a_top_at_the_stores_end : (store : List ℕ) (top : Top) → top.at ≡ length store → top ≡ full_top top.entry store top.to
+a_top_at_the_stores_end store top e = ap (λ (n : ℕ). record { entry = top.entry; to = top.to; at = n }) e
+
 module _ (list₀ : List Entry) (store₀ page : List ℕ) (s : Span) (at : Cursor) (bytes room : ℕ) (g : Raises list₀ store₀ page s at bytes room) (parts : ℕ) (many : parts ≡ s.used + 1 - at.entry) where
   -- the last i parts are raised
   pub record PartsRaised (list : List Entry) (store : List ℕ) (top : Top) (i : ℕ) : Type 0 where
@@ -125,9 +128,6 @@ module _ (list₀ : List Entry) (store₀ page : List ℕ) (s : Span) (at : Curs
         all_is_lifted list₀ store₀ page s at bytes room g list store top (s.used + 1 - i) w.lifted (omega (arith, past, many, g.there.entry_in))
 
     module _ (less : i < parts) where
-      pub the_part_has_a_cursor : i ≤ s.used
-      the_part_has_a_cursor = omega (arith, less, many)
-
       abbrev e : ℕ
       e = s.used + 1 - i
 

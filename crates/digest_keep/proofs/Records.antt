@@ -30,9 +30,6 @@ module _ (store : List ℕ) (top : Top) (value : List ℕ) (room : RoomFor (leng
   at_is : next.at ≡ top.at - length value
   at_is = ap (λ (t : Top). t.at) e
 
-  pub its_bytes_are_there : next.at + length value ≤ length store
-  its_bytes_are_there = omega (arith, at_is, room.fits, room.store_in)
-
   pub what_is_copied_stands_under_the_top : (store' : List ℕ) → store' ≡ put store next.at value → store' ≡ under store top.at value
   what_is_copied_stands_under_the_top store' s =
       let q : next.at + length value ≡ top.at = omega (arith, at_is, room.fits) in
@@ -86,9 +83,6 @@ module _ (store : List ℕ) (e : Entry) (top : Top) (below : InsertIn e top.at) 
   pub an_insert_has_room : (0 < top.entry) × (e.to - e.from ≤ top.to) × (e.to - e.from ≤ top.at)
   an_insert_has_room = (room.entry, omega (arith, room.place, value_long), omega (arith, room.fits, value_long))
 
-  pub an_insert_moves_within_the_store : (e.from ≤ e.to) × (e.to ≤ top.at) × (top.at ≤ length store)
-  an_insert_moves_within_the_store = (below.order, below.there, room.store_in)
-
   pub an_insert_is_lifted : (next : Top) → next ≡ lower_by top 1 (e.to - e.from) → (x : Lifted) (store' : List ℕ) → x ≡ record { top = next; entry = insert_at next.to top.to e.key (bit (not (eqb e.flag 0))) }
       → store' ≡ under store top.at (take (e.to - e.from) (drop e.from store))
       → (x ≡ lifted_of top (insert_record store e)) × (store' ≡ under store top.at (insert_record store e).value)
@@ -114,9 +108,6 @@ module _ (store page : List ℕ) (e : Entry) (i : ℕ) (top : Top) (h : LastTher
     is_a_base_record : last_record store page e i ≡ record_at page (e.to - 1 - i)
     unfolding last_record
     is_a_base_record = rw (ne_eqb e.kind 1 n)
-
-    pub a_chunk_has_a_last : (1 ≤ e.to) × (i ≤ e.to - 1)
-    a_chunk_has_a_last = (omega (arith, h.within n), omega (arith, h.within n))
 
     pub the_chunks_last_can_be_lifted : (n : ℕ) → n ≡ count page → (e.to - 1 - i < n) × (RoomFor (length store) top (length (record_at page (e.to - 1 - i)).value))
     the_chunks_last_can_be_lifted m c = (omega (arith, (h.chunk n).there, c), rw is_a_base_record at h.room)

@@ -16,7 +16,7 @@ ghost use Rattle.leaf_write.specs.Filling.{insert_record, InsertIn};
 ghost use Rattle.leaf_move.specs.Moving.{settled};
 ghost use Rattle.leaf_raise.specs.Raising.{Raised};
 ghost use Rattle.leaf_merge.specs.Keeping.{KeptAs};
-ghost use Rattle.leaf_merge.specs.Lifting.{full_top, Raises};
+ghost use Rattle.leaf_merge.specs.Lifting.{Raises};
 ghost use Rattle.digest_keep.specs.Lifting.{LiftedTo, last_record, RoomFor, LastThere, part_records, RaisedTo, Raisable, place_before, part_of, RestThere, room_by};
 ghost use Rattle.digest_keep.specs.Keeping.{KeepsIn};
 
@@ -142,20 +142,12 @@ fn part_of(entry: Entry, n: usize, span: Span, place: Cursor) -> Entry
     chunk_entry(span.low + place.skip, n, 0)
 }
 
-// Raises all records from a cursor on, whose values have `bytes` bytes: the base's rest, then entry by entry, the last one first.
-fn raise(
-    list: &mut [Entry],
-    store: &mut [u8],
-    node: LeafNode,
-    span: Span,
-    at: Cursor,
-    bytes: usize,
-    room: usize,
-)
-    requires { Raises list.old store.old node.page.now span at bytes room }
-    ensures { Raised list.old store.old (full_top room store.old bytes) (records_from span list.old store.old node.entry.page.now at) list.new store.new }
+// Raises all records from a cursor on, up to the store's end: the base's rest, then entry by entry, the last one first.
+fn raise(list: &mut [Entry], store: &mut [u8], node: LeafNode, span: Span, at: Cursor, start: Top)
+    requires { (Raises list.old store.old node.page.now span at start.to start.entry) × (start.at ≡ length store.old) }
+    ensures { Raised list.old store.old start (records_from span list.old store.old node.entry.page.now at) list.new store.new }
 {
-    let mut top = full_top(room, bytes, store.len());
+    let mut top = start;
     for i in 0..span.used + 1 - at.entry {
         let place = place_before(span, at, i);
         let entry = split(list, place.entry, place.skip);
@@ -207,7 +199,8 @@ pub fn prepare_merge_ops(
 {
     let span = span_of(work);
     let room = room_by(work.used, left.count, list.len());
-    raise(list, store, node, span, at, left.bytes, room);
+    let start = full_top(room, left.bytes, store.len());
+    raise(list, store, node, span, at, start);
     settle_first(list, room, left.count);
     settle_bytes(store, left.bytes, work.filled);
 }

@@ -14,8 +14,8 @@ use Rattle.leaf_cut.specs.declared.Span.{Span}
 use Rattle.leaf_cut.specs.declared.Cursor.{Cursor}
 use Rattle.leaf_cut.specs.declared.Taken.{Taken}
 use Rattle.leaf_cut.specs.Sizes.{cut_sizes, gauge_of, sizes_behind, count_behind, passed_by}
-use Rattle.leaf_cut.specs.Steps.{Leaf, Spread, CursorIn, EntryAt, Walked, Leafed}
-use Rattle.leaf_cut.proofs.Walking.{a_walk_starts, the_entry_has_records, the_leaf_ends_in_the_entry, all_taken, the_leaf_goes_on, the_rest_is_reached, the_leaf_ends_in_the_rest}
+use Rattle.leaf_cut.specs.Steps.{Leaf, Spread, EntryAt, Walked, Leafed}
+use Rattle.leaf_cut.proofs.Walking.{the_entry_has_records, the_leaf_ends_in_the_entry, all_taken, the_leaf_goes_on, the_leaf_ends_in_the_rest}
 
 -- an entry of the list is read, whatever stands for one that is not there
 pub it_is_in_the_list : (list : List Entry) (i : ℕ) (d : Entry) → i < length list → get_or list i d ≡ get_or list i blank
@@ -30,9 +30,6 @@ module _ (a : Aim) (list : List Entry) (page : List ℕ) (s : Span) (start : Cur
     pub walked : Walked a list page s start at leaf
 
   module _ (spread : Spread list page s) where
-    pub upon_first : CursorIn list page s start → 0 < a.target → a.target ≤ a.limit → a.limit ≤ 32767 → Upon start (record { count = 0; bytes = 0 }) start.entry
-    upon_first c p r m = record { here = refl; walked = a_walk_starts a list page s spread start c p r m }
-
     module _ (at : Cursor) (leaf : Gauge) (i : ℕ) (k : Upon at leaf i) where
       module _ (l : i < s.used) (e : Entry) (q : e ≡ get_or list i blank) where
         inside : at.entry < s.used
@@ -61,9 +58,6 @@ module _ (a : Aim) (list : List Entry) (page : List ℕ) (s : Span) (start : Cur
           }
 
       module _ (past : s.used ≤ i) where
-        pub the_rest_asks : s.low + at.skip ≤ count page
-        the_rest_asks = the_rest_is_reached a list page s spread start at leaf k.walked (omega (arith, k.here))
-
         pub upon_last : (r : Taken) → r.end ≡ cut_sizes a.limit a.target leaf.count leaf.bytes (run (count page - (s.low + at.skip)) (s.low + at.skip) (length_at page))
             → r.at ≡ record { entry = s.used; skip = at.skip + (r.end.count - leaf.count) } → Leafed a list page s start r
         upon_last r f g = the_leaf_ends_in_the_rest a list page s spread start at leaf k.walked (omega (arith, k.here)) r f g

@@ -5,7 +5,7 @@ use mathlib.Core.List.{List}
 use Prim.Native.Nat.{ℕ, ◌+◌, ◌≤◌, ◌<◌}
 use native.Mathlib.Omega.{arith}
 use lib.ListN.{get_or}
-use borrow.Author.Tests.{lt-ltb, le-ltb, eq-eqb, ne_eqb}
+use borrow.Author.Tests.{lt-ltb, le-ltb}
 use Rattle.leaf_node.specs.Page.{count, key_at}
 use Rattle.leaf_work.specs.declared.Entry.{Entry}
 use Rattle.leaf_work.specs.Lent.{blank}
@@ -13,24 +13,23 @@ use Rattle.leaf_cut.specs.declared.Span.{Span}
 use Rattle.leaf_cut.specs.declared.Cursor.{Cursor}
 use Rattle.leaf_cut.specs.Steps.{Spread, CursorIn}
 use Rattle.leaf_cut.proofs.Walking.{chunk_many}
-use Rattle.leaf_write.specs.Filling.{key_from}
+use Rattle.leaf_write.specs.Filling.{entry_key, key_from}
+use Rattle.digest_leaf.specs.Keys.{KeyAsked}
 
 module _ (list : List Entry) (page : List ℕ) (s : Span) (at : Cursor) where
   module _ (l : at.entry < s.used) (e : Entry) (q : e ≡ get_or list at.entry blank) where
-    pub an_inserts_key_is_first : e.kind ≡ 1 → some e.key ≡ key_from s list page at
-    unfolding key_from
-    an_inserts_key_is_first k = rw (lt-ltb at.entry s.used l, ← q, eq-eqb e.kind 1 k)
-
-    module _ (n : e.kind ≡ 1 → ⊥) where
-      pub a_chunk_has_a_next : Spread list page s → CursorIn list page s at → e.from + at.skip < count page
-      a_chunk_has_a_next spread c =
+    pub an_entry_asks : Spread list page s → CursorIn list page s at → KeyAsked page e at.skip
+    an_entry_asks spread c = record {
+      chunk = λ n.
           let h = rw (← q) at (spread.entries at.entry l) in
           let k = rw (← q) at (c.skip_in l) in
-          omega (arith, (h.chunk n).1, spread.rest.low_in, k, chunk_many page e s h spread.rest n)
+          let m : e.from + at.skip < count page = omega (arith, (h.chunk n).1, spread.rest.low_in, k, chunk_many page e s h spread.rest n) in
+          omega (arith, (spread.rest.laid (omega arith)).inside);
+    }
 
-      pub a_chunks_key_is_first : (k : List ℕ) → k ≡ key_at page (e.from + at.skip) → some k ≡ key_from s list page at
-      unfolding key_from
-      a_chunks_key_is_first k h = rw (lt-ltb at.entry s.used l, ← q, ne_eqb e.kind 1 n, h)
+    pub an_entrys_key_is_first : (k : List ℕ) → k ≡ entry_key page e at.skip → some k ≡ key_from s list page at
+    unfolding key_from
+    an_entrys_key_is_first k h = rw (lt-ltb at.entry s.used l, ← q, h)
 
   module _ (l : s.used ≤ at.entry) where
     pub the_rests_key_is_first : s.low + at.skip < count page → (k : List ℕ) → k ≡ key_at page (s.low + at.skip) → some k ≡ key_from s list page at

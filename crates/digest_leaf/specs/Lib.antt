@@ -1,2 +1,3 @@
--- One leaf off the list: what making its page requires.
+-- One leaf off the list: what filling its page and reading the key behind it require.
 pub mod Pushing
+pub mod Keys

@@ -5,115 +5,103 @@
 ghost use Rattle.std.specs.Prelude.{◌≡◌, ◌≤◌, ◌<◌, length, take};
 ghost use Rattle.leaf_node.specs.Build.{pushed, build};
 ghost use Rattle.leaf_work.specs.Tests.{lent_key};
-ghost use Rattle.leaf_cut.specs.Records.{records_from};
+ghost use Rattle.leaf_cut.specs.Records.{span_of, records_from};
 ghost use Rattle.leaf_cut.specs.Steps.{Spread, CursorIn, Leafed};
-ghost use Rattle.leaf_write.specs.Filling.{key_from};
+ghost use Rattle.leaf_write.specs.Filling.{entry_key, key_from};
 ghost use Rattle.digest_leaf.specs.Pushing.{RecordsAsked, LeafAsked};
+ghost use Rattle.digest_leaf.specs.Keys.{KeyAsked};
 
 use leaf_builder::begin;
-use leaf_cut::{Aim, Cursor, Gauge, Span, Taken, consume_entry, consume_rest};
-use leaf_node::LeafNode;
-use leaf_work::Entry;
-use leaf_write::{push_entry, push_range};
+use leaf_cut::{Aim, Cursor, Gauge, Taken, consume_entry, consume_rest, span_of};
+use leaf_node::{LeafNode, key_at};
+use leaf_work::{Entry, Work};
+use leaf_write::{Place, push_entry, push_range};
 
-// ---- where a leaf ends
-
-// One leaf off the pending records from a cursor on: entry by entry, then the base's rest.
-pub fn consume_and_update_until(
-    list: &[Entry],
-    node: LeafNode,
-    span: Span,
-    start: Cursor,
-    aim: Aim,
-) -> Taken
-    requires { (Spread list.now node.page.now span) × (CursorIn list.now node.page.now span start) × (0 < aim.target) × (aim.target ≤ aim.limit) × (aim.limit ≤ 32767) }
-    ensures { Leafed aim list.now node.entry.page.now span start result }
+// The key of an entry's first record behind the first `skip`.
+pub fn op_first_key<'a>(entry: &'a Entry, page: &'a [u8], skip: usize) -> &'a [u8; 32]
+    requires { KeyAsked page.now entry.now skip }
+    ensures { result.now ≡ entry_key page.now entry.now skip }
 {
-    let mut leaf = Gauge { count: 0, bytes: 0 };
-    let mut at = start;
-    for i in start.entry..span.used {
-        let taken = consume_entry(&list[i], node, at, leaf, aim);
-        if taken.end.cut {
-            return taken;
-        }
-        leaf = Gauge::from(taken.end);
-        at = taken.at;
+    if entry.is_insert() {
+        return &entry.key;
     }
-    consume_rest(node, span, at.skip, leaf, aim)
+    key_at(page, entry.from + skip)
 }
 
-// ---- the page of a leaf
-
-// Pushes `count` records from a cursor on as the records of a page, their values from byte `first` on.
-fn push_records(
-    list: &[Entry],
-    store: &[u8],
-    node: LeafNode,
-    span: Span,
-    start: Cursor,
-    count: usize,
-    d: &mut [u8],
-    first: usize,
-)
-    requires { RecordsAsked list.now store.now node.page.now span start count (length d.old) first }
-    ensures { d.new ≡ pushed d.old 0 first (take count (records_from span list.now store.now node.entry.page.now start)) }
-{
-    let mut skip = start.skip;
-    let mut j = 0;
-    let mut at = first;
-    for i in start.entry..span.used {
-        if count <= j {
-            return;
-        }
-        let part = push_entry(&list[i], store, node.page, skip, count - j, d, j, at);
-        skip = 0;
-        j += part.count;
-        at = part.at;
-    }
-    if j < count {
-        push_range(node.page, span.low + skip, node.n, count - j, d, j, at);
-    }
+// What leaves are taken off: a work with its list, its store, and its base as it regards it. The entries used lie in list and base.
+#[derive(Clone, Copy)]
+pub struct Pending<'a> {
+    pub work: &'a Work,
+    pub list: &'a [Entry],
+    pub store: &'a [u8],
+    pub node: LeafNode<'a>,
+    pub ghost spread: { Spread list.now node.page.now (span_of work.now) },
 }
 
-// The page of a leaf: `leaf.count` records from a cursor on, whose values have `leaf.bytes` bytes.
-pub fn build_leaf(
-    list: &[Entry],
-    store: &[u8],
-    node: LeafNode,
-    span: Span,
-    start: Cursor,
-    leaf: Gauge,
-    d: &mut [u8],
-)
-    requires { LeafAsked list.now store.now node.page.now span start leaf (length d.old) }
-    ensures { d.new ≡ build (length d.old) (take leaf.count (records_from span list.now store.now node.entry.page.now start)) }
-{
-    let first = begin(d, leaf.count, leaf.bytes);
-    push_records(list, store, node, span, start, leaf.count, d, first);
-}
-
-// ---- the key of what follows
-
-// The key of the first record from a cursor on; none where no record is left.
-pub fn op_first_key<'a>(
-    list: &'a [Entry],
-    node: LeafNode<'a>,
-    span: Span,
-    at: Cursor,
-) -> Option<&'a [u8; 32]>
-    requires { (Spread list.now node.page.now span) × (CursorIn list.now node.page.now span at) }
-    ensures { lent_key result ≡ key_from span list.now node.entry.page.now at }
-{
-    if at.entry < span.used {
-        let entry = &list[at.entry];
-        if entry.is_insert() {
-            return Some(&entry.key);
+impl<'a> Pending<'a> {
+    // One leaf off the pending records from a cursor on: entry by entry, then the base's rest.
+    pub fn consume_and_update_until(self, start: Cursor, aim: Aim) -> Taken
+        requires { (CursorIn self.list.now self.node.page.now (span_of self.work.now) start) × (0 < aim.target) × (aim.target ≤ aim.limit) × (aim.limit ≤ 32767) }
+        ensures { Leafed aim self.entry.list.now self.entry.node.page.now (span_of self.entry.work.now) start result }
+    {
+        let mut leaf = Gauge { count: 0, bytes: 0 };
+        let mut at = start;
+        for i in start.entry..self.work.used {
+            let taken = consume_entry(&self.list[i], self.node, at, leaf, aim);
+            if taken.end.cut {
+                return taken;
+            }
+            leaf = Gauge::from(taken.end);
+            at = taken.at;
         }
-        return Some(node.key(entry.from + at.skip));
+        consume_rest(self.node, span_of(self.work), at.skip, leaf, aim)
     }
-    let next = span.low + at.skip;
-    if next < node.n {
-        return Some(node.key(next));
+
+    // Pushes records from a cursor on, as many as the page still takes.
+    fn push_records(self, start: Cursor, d: &mut [u8], first: Place)
+        requires { RecordsAsked self.list.now self.store.now self.node.page.now (span_of self.work.now) start first (length d.old) }
+        ensures { let q = self.entry in d.new ≡ pushed d.old first.index first.at (take first.left (records_from (span_of q.work.now) q.list.now q.store.now q.node.page.now start)) }
+    {
+        let mut skip = start.skip;
+        let mut place = first;
+        for i in start.entry..self.work.used {
+            if place.left == 0 {
+                return;
+            }
+            place = push_entry(&self.list[i], self.store, self.node.page, skip, d, place);
+            skip = 0;
+        }
+        if place.left != 0 {
+            push_range(self.node.page, self.work.low + skip, self.node.n, d, place);
+        }
     }
-    None
+
+    // The page of a leaf: `leaf.count` records from a cursor on, whose values have `leaf.bytes` bytes.
+    pub fn build_leaf(self, start: Cursor, leaf: Gauge, d: &mut [u8])
+        requires { LeafAsked self.list.now self.store.now self.node.page.now (span_of self.work.now) start leaf (length d.old) }
+        ensures { let q = self.entry in d.new ≡ build (length d.old) (take leaf.count (records_from (span_of q.work.now) q.list.now q.store.now q.node.page.now start)) }
+    {
+        let at = begin(d, leaf.count, leaf.bytes);
+        let first = Place {
+            index: 0,
+            at,
+            left: leaf.count,
+        };
+        self.push_records(start, d, first);
+    }
+
+    // The key of the first record from a cursor on; none where no record is left.
+    pub fn next_key(self, at: Cursor) -> Option<&'a [u8; 32]>
+        requires { CursorIn self.list.now self.node.page.now (span_of self.work.now) at }
+        ensures { lent_key result ≡ key_from (span_of self.entry.work.now) self.entry.list.now self.entry.node.page.now at }
+    {
+        if at.entry < self.work.used {
+            return Some(op_first_key(&self.list[at.entry], self.node.page, at.skip));
+        }
+        let next = self.work.low + at.skip;
+        if next < self.node.n {
+            return Some(self.node.key(next));
+        }
+        None
+    }
 }

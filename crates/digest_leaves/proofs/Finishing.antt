@@ -3,17 +3,18 @@ use mathlib.Core.Path.{◌≡◌, refl, sym, ◌∙◌}
 use mathlib.Core.Bool.{Bool, true, false, not, ◌&&◌, true≢false}
 use Rattle.std.specs.Prelude.{None, Some}
 use mathlib.Core.List.{List}
-use Prim.Native.Nat.{ℕ, ◌+◌, ◌-◌, ◌*◌, ◌≤◌}
+use Prim.Native.Nat.{ℕ, ◌-◌, ◌≤◌}
 use borrow.Author.Tests.{eqb-true, eqb-false, not-true}
 use lib.Dec.{eqb, ltb}
 use lib.ListN.{length}
-use Rattle.leaf_node.specs.Limits.{PageSize, merge_below}
+use Rattle.leaf_node.specs.Limits.{merge_below}
 use Rattle.leaf_node.specs.Page.{count}
 use Rattle.leaf_model.proofs.Tests.{and_left, and_right}
 use Rattle.leaf_work.specs.declared.Entry.{Entry}
 use Rattle.leaf_work.specs.declared.Work.{Work}
 use Rattle.leaf_work.specs.Tests.{is_set}
 use Rattle.leaf_work.specs.Lent.{cutoff_of}
+use Rattle.leaf_cut.specs.Sizes.{body_of}
 use Rattle.leaf_cut.specs.Records.{span_of}
 use Rattle.leaf_give.specs.declared.Progress.{Progress}
 use Rattle.leaf_give.specs.declared.Beginning.{Beginning}
@@ -37,9 +38,8 @@ module _ (size : ℕ) (w : Work) (list : List Entry) (store page area tickets : 
   -- ---- the end
 
   module _ (p : Progress) (a t : List ℕ) (o : Along size w list store page area tickets (cut_on size w list store page) p a t) where
-    pub the_last_asks : (PageSize size) × (p.left.count ≤ 98304) × (p.left.bytes ≤ 98304)
+    pub the_last_asks : (p.left.count ≤ 98304) × (p.left.bytes ≤ 98304)
     the_last_asks = (
-      g.sized,
       few_records_are_left size w list store page area tickets g p a t o,
       few_bytes_are_left size w list store page area tickets g p a t o,
     )
@@ -48,7 +48,7 @@ module _ (size : ℕ) (w : Work) (list : List Entry) (store page area tickets : 
     some = not (eqb p.left.count 0)
 
     abbrev waiting : Bool
-    waiting = is_set w.cut && ltb (34 * p.left.count + p.left.bytes) (merge_below size)
+    waiting = is_set w.cut && ltb (body_of p.left) (merge_below size)
 
     module _ (x : Bool) (ex : x ≡ is_last size w p) where
       pub what_is_left_is_kept : x ≡ false → GivenOut size w list store page area tickets p a t

@@ -3,22 +3,20 @@
 #![tactic(auto)]
 
 ghost use Rattle.std.specs.Prelude.{◌≡◌, ◌≤◌};
-ghost use Rattle.leaf_node.specs.Limits.{PageSize};
 ghost use Rattle.leaf_give.specs.Giving.{Gives, GivenOut};
-ghost use Rattle.leaf_give.specs.Steps.{Along};
-ghost use Rattle.digest_leaves.specs.Leaves.{is_last, cut_on, CutAsked};
+ghost use Rattle.digest_leaves.specs.Leaves.{is_last, CutAsked, AllCut};
 
 use digest_give::give_leaf;
-use digest_leaf::consume_and_update_until;
-use leaf_cut::{Aim, Cursor, Gauge, span_of};
+use digest_leaf::Pending;
+use leaf_cut::{Aim, Cursor, Ended, Taken};
 use leaf_give::{Progress, begin_leaves, waits};
-use leaf_node::LeafNode;
-use leaf_work::{Entry, Work};
+use leaf_node::Size;
+use leaf_work::Work;
 
 // Whether what is left is the last leaf: there are records, and they wait for no merge.
-fn is_last(work: &Work, p: Progress, size: usize) -> bool
-    requires { (PageSize size) × (p.left.count ≤ 98304) × (p.left.bytes ≤ 98304) }
-    ensures { result ≡ is_last size work.now p }
+fn is_last(work: &Work, p: Progress, size: Size) -> bool
+    requires { (p.left.count ≤ 98304) × (p.left.bytes ≤ 98304) }
+    ensures { result ≡ is_last size.bytes work.now p }
 {
     let left = p.left;
     (left.count != 0) & !waits(work.cut != 0, left, size)
@@ -28,97 +26,59 @@ fn is_last(work: &Work, p: Progress, size: usize) -> bool
 
 // Leaves with the target's body off all that is pending, as long as there are any. Steps 3 and 5.
 fn try_build_leaves(
-    work: &Work,
-    list: &[Entry],
-    store: &[u8],
-    node: LeafNode,
+    pending: Pending,
     start: Progress,
     target: usize,
     area: &mut [u8],
     tickets: &mut [u8],
-    size: usize,
+    size: Size,
 ) -> Progress
-    requires { CutAsked size work.now list.now store.now node.page.now area.old tickets.old start target }
-    ensures { Along size work.now list.now store.now node.entry.page.now area.old tickets.old (cut_on size work.now list.now store.now node.entry.page.now) result area.new tickets.new }
+    requires { let q = pending in CutAsked size.bytes q.work.now q.list.now q.store.now q.node.page.now area.old tickets.old start target }
+    ensures { let q = pending.entry in AllCut size.bytes q.work.now q.list.now q.store.now q.node.page.now area.old tickets.old result area.new tickets.new }
 {
-    let span = span_of(work);
-    let cutoff = work.cutoff();
-    let limit = size - 2;
+    let limit = size.body_limit();
     let aim = Aim { target, limit };
     let mut p = start;
-    let mut t = consume_and_update_until(list, node, span, start.at, aim);
+    let mut t = pending.consume_and_update_until(start.at, aim);
+    // it goes on until no leaf is cut off any more: no index counts to that
     while t.end.cut {
-        let leaf = Gauge::from(t.end);
-        p = give_leaf(
-            list, store, node, span, p, leaf, t.at, cutoff, area, tickets, size,
-        );
-        t = consume_and_update_until(list, node, span, p.at, aim);
+        p = give_leaf(pending, p, t, area, tickets, size);
+        t = pending.consume_and_update_until(p.at, aim);
     }
     p
 }
 
 // The leaves that are cut off what is pending, steps 1 to 3.
-fn cut_leaves(
-    work: &Work,
-    list: &[Entry],
-    store: &[u8],
-    node: LeafNode,
-    area: &mut [u8],
-    tickets: &mut [u8],
-    size: usize,
-) -> Progress
-    requires { Gives size work.now list.now store.now node.page.now area.old tickets.old }
-    ensures { Along size work.now list.now store.now node.entry.page.now area.old tickets.old (cut_on size work.now list.now store.now node.entry.page.now) result area.new tickets.new }
+fn cut_leaves(pending: Pending, area: &mut [u8], tickets: &mut [u8], size: Size) -> Progress
+    requires { let q = pending in Gives size.bytes q.work.now q.list.now q.store.now q.node.page.now area.old tickets.old }
+    ensures { let q = pending.entry in AllCut size.bytes q.work.now q.list.now q.store.now q.node.page.now area.old tickets.old result area.new tickets.new }
 {
-    let begun = begin_leaves(work, node, size);
+    let begun = begin_leaves(pending.work, pending.node, size);
     match begun.target {
-        Some(target) => try_build_leaves(
-            work,
-            list,
-            store,
-            node,
-            begun.start,
-            target,
-            area,
-            tickets,
-            size,
-        ),
+        Some(target) => try_build_leaves(pending, begun.start, target, area, tickets, size),
         None => begun.start,
     }
 }
 
 // All leaves of a digest, steps 1 to 5.
-pub fn give_leaves(
-    work: &Work,
-    list: &[Entry],
-    store: &[u8],
-    node: LeafNode,
-    area: &mut [u8],
-    tickets: &mut [u8],
-    size: usize,
-) -> Progress
-    requires { Gives size work.now list.now store.now node.page.now area.old tickets.old }
-    ensures { GivenOut size work.now list.now store.now node.entry.page.now area.old tickets.old result area.new tickets.new }
+pub fn give_leaves(pending: Pending, area: &mut [u8], tickets: &mut [u8], size: Size) -> Progress
+    requires { let q = pending in Gives size.bytes q.work.now q.list.now q.store.now q.node.page.now area.old tickets.old }
+    ensures { let q = pending.entry in GivenOut size.bytes q.work.now q.list.now q.store.now q.node.page.now area.old tickets.old result area.new tickets.new }
 {
-    let p = cut_leaves(work, list, store, node, area, tickets, size);
-    if !is_last(work, p, size) {
+    let p = cut_leaves(pending, area, tickets, size);
+    if !is_last(pending.work, p, size) {
         return p;
     }
-    let end = Cursor {
-        entry: work.used,
-        skip: node.n - work.low,
+    let last = Taken {
+        end: Ended {
+            cut: false,
+            count: p.left.count,
+            bytes: p.left.bytes,
+        },
+        at: Cursor {
+            entry: pending.work.used,
+            skip: pending.node.n - pending.work.low,
+        },
     };
-    give_leaf(
-        list,
-        store,
-        node,
-        span_of(work),
-        p,
-        p.left,
-        end,
-        work.cutoff(),
-        area,
-        tickets,
-        size,
-    )
+    give_leaf(pending, p, last, area, tickets, size)
 }

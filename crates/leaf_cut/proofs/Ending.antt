@@ -35,24 +35,24 @@ module _ (limit target : ℕ) where
   -- ---- a chunk, record by record
 
   module _ (p : List ℕ) (to i n b v : ℕ) (e : Ended) (inv : e ≡ cut_sizes limit target n b (run (to - i) i (length_at p))) where
-    pub the_chunk_is_taken : to ≤ i → ◌≡◌ {A = Ended} (record { cut = false; count = n; bytes = b }) e
+    pub the_chunk_is_taken : to ≤ i → (x : Ended) → x ≡ record { cut = false; count = n; bytes = b } → x ≡ e
     unfolding cut_sizes run
-    the_chunk_is_taken h = let z : to - i ≡ 0 = omega arith in rw (inv, z)
+    the_chunk_is_taken h x d = let z : to - i ≡ 0 = omega arith in d ∙ rw (inv, z)
 
-    module _ (records : ℕ) (c : Counted p records) (there : to ≤ records) (h : i < to) (q : v ≡ values_size p i (i + 1)) where
+    module _ (records : ℕ) (c : Counted p records) (there : to ≤ records) (h : i < to) (q : v ≡ values_size p i (i + 1)) (body : ℕ) (m : body ≡ 34 * (n + 1) + (b + v)) where
       head : e ≡ cut_sizes limit target n b (v ∷ run (to - (i + 1)) (i + 1) (length_at p))
       unfolding run
       head = let z : to - i ≡ suc (to - (i + 1)) = omega arith in inv ∙ rw (z, one_value_is_its_length p records (c.laid (omega arith)) i v (omega arith) q, add-one i)
 
-      pub the_leaf_ends_before : limit < 34 * (n + 1) + (b + v) → ◌≡◌ {A = Ended} (record { cut = true; count = n; bytes = b }) e
-      the_leaf_ends_before k = rw (head, ends_before n b v (run (to - (i + 1)) (i + 1) (length_at p)) k)
+      pub the_leaf_ends_before : limit < body → (x : Ended) → x ≡ record { cut = true; count = n; bytes = b } → x ≡ e
+      the_leaf_ends_before k x d = d ∙ rw (head, ends_before n b v (run (to - (i + 1)) (i + 1) (length_at p)) (rw m at k))
 
-      module _ (k : 34 * (n + 1) + (b + v) ≤ limit) where
-        pub the_leaf_ends_behind : target ≤ 34 * (n + 1) + (b + v) → ◌≡◌ {A = Ended} (record { cut = true; count = n + 1; bytes = b + v }) e
-        the_leaf_ends_behind m = rw (head, ends_behind n b v (run (to - (i + 1)) (i + 1) (length_at p)) k m)
+      module _ (k : body ≤ limit) where
+        pub the_leaf_ends_behind : target ≤ body → (x : Ended) → x ≡ record { cut = true; count = n + 1; bytes = b + v } → x ≡ e
+        the_leaf_ends_behind l x d = d ∙ rw (head, ends_behind n b v (run (to - (i + 1)) (i + 1) (length_at p)) (rw m at k) (rw m at l))
 
-        pub the_leaf_ends_later : 34 * (n + 1) + (b + v) < target → e ≡ cut_sizes limit target (n + 1) (b + v) (run (to - (i + 1)) (i + 1) (length_at p))
-        the_leaf_ends_later m = head ∙ ends_later n b v (run (to - (i + 1)) (i + 1) (length_at p)) k m
+        pub the_leaf_ends_later : body < target → e ≡ cut_sizes limit target (n + 1) (b + v) (run (to - (i + 1)) (i + 1) (length_at p))
+        the_leaf_ends_later l = head ∙ ends_later n b v (run (to - (i + 1)) (i + 1) (length_at p)) (rw m at k) (rw m at l)
 
   -- ---- a piece below the target is taken whole
 
@@ -66,26 +66,26 @@ module _ (limit target : ℕ) where
 
   -- ---- an insert
 
-  module _ (n b v : ℕ) where
-    pub an_insert_ends_the_leaf : limit < 34 * (n + 1) + (b + v) → record { cut = true; count = n; bytes = b } ≡ cut_sizes limit target n b (v ∷ [])
-    an_insert_ends_the_leaf h = sym (ends_before n b v [] h)
+  module _ (n b v body : ℕ) (m : body ≡ 34 * (n + 1) + (b + v)) (e : Ended) where
+    pub an_insert_ends_the_leaf : limit < body → e ≡ record { cut = true; count = n; bytes = b } → e ≡ cut_sizes limit target n b (v ∷ [])
+    an_insert_ends_the_leaf h d = d ∙ sym (ends_before n b v [] (rw m at h))
 
-    pub an_insert_is_taken : 34 * (n + 1) + (b + v) ≤ limit → record { cut = leb target (34 * (n + 1) + (b + v)); count = n + 1; bytes = b + v } ≡ cut_sizes limit target n b (v ∷ [])
-    an_insert_is_taken h = test (leb target (34 * (n + 1) + (b + v))) refl
+    pub an_insert_is_taken : body ≤ limit → e ≡ record { cut = leb target body; count = n + 1; bytes = b + v } → e ≡ cut_sizes limit target n b (v ∷ [])
+    an_insert_is_taken h d = d ∙ test (leb target body) refl
       where
-        test : (t : Bool) → leb target (34 * (n + 1) + (b + v)) ≡ t
-            → record { cut = leb target (34 * (n + 1) + (b + v)); count = n + 1; bytes = b + v } ≡ cut_sizes limit target n b (v ∷ [])
-        test true e = rw (ends_behind n b v [] h (leb-true target (34 * (n + 1) + (b + v)) e), e)
-        test false e = unfold cut_sizes in rw (ends_later n b v [] h (leb-false target (34 * (n + 1) + (b + v)) e), e)
+        test : (t : Bool) → leb target body ≡ t → record { cut = leb target body; count = n + 1; bytes = b + v } ≡ cut_sizes limit target n b (v ∷ [])
+        test true q = rw (ends_behind n b v [] (rw m at h) (rw m at (leb-true target body q)), q)
+        test false q = unfold cut_sizes in rw (ends_later n b v [] (rw m at h) (rw m at (leb-false target body q)), q)
 
   -- ---- a chunk that stays below the target
 
   pub a_chunk_below_the_target_is_taken : (p : List ℕ) (records : ℕ) (c : Counted p records) (from to n b v : ℕ) → from ≤ to → to ≤ records → target ≤ limit → v ≡ values_size p from to
-      → 34 * (n + (to - from)) + (b + v) < target → ◌≡◌ {A = Ended} (record { cut = false; count = n + (to - from); bytes = b + v }) (cut_sizes limit target n b (run (to - from) from (length_at p)))
-  a_chunk_below_the_target_is_taken p records c from to n b v o k t q h =
+      → (body : ℕ) → body ≡ 34 * (n + (to - from)) + (b + v) → body < target → (e : Ended) → e ≡ record { cut = false; count = n + (to - from); bytes = b + v }
+      → e ≡ cut_sizes limit target n b (run (to - from) from (length_at p))
+  a_chunk_below_the_target_is_taken p records c from to n b v o k t q body eq h e g =
       let xs : List ℕ = run (to - from) from (length_at p) in
       let m : length xs ≡ to - from = length_run (to - from) from (length_at p) in
       let s : v ≡ sum xs = q ∙ a_range_is_summed p records c from to o k in
       let d : cut_sizes limit target n b xs ≡ record { cut = false; count = n + length xs; bytes = b + sum xs } =
-      ap (cut_sizes limit target n b) (sym (append-nil xs)) ∙ a_piece_below_the_target_is_taken xs [] n b t (omega (arith, m, s)) ∙ unfold cut_sizes in refl in
-      rw s (ap (λ (k : ℕ). record { cut = false; count = n + k; bytes = b + sum xs }) (sym m) ∙ sym d)
+      ap (cut_sizes limit target n b) (sym (append-nil xs)) ∙ a_piece_below_the_target_is_taken xs [] n b t (omega (arith, m, s, eq)) ∙ unfold cut_sizes in refl in
+      g ∙ rw s (ap (λ (k : ℕ). record { cut = false; count = n + k; bytes = b + sum xs }) (sym m) ∙ sym d)

@@ -1,35 +1,23 @@
--- How much is pending, and how many pages that takes. Assumes nothing.
-use mathlib.Core.Path.{◌≡◌, refl}
+-- The body that leaves aim at, by the pending one. Assumes nothing.
+use mathlib.Core.Path.{◌≡◌}
 use Rattle.std.specs.Prelude.{None, Some}
-use Prim.Native.Nat.{ℕ, ◌+◌, ◌-◌, ◌*◌, ◌/◌, ◌≤◌, ◌<◌}
-use native.Mathlib.Omega.{arith}
-use native.Mathlib.Nat.{div-le_self}
+use Prim.Native.Nat.{ℕ, ◌-◌, ◌/◌, ◌≤◌, ◌<◌}
 use borrow.Author.Tests.{lt-ltb, le-ltb}
-use Rattle.leaf_node.specs.Limits.{PageSize, body_limit, merge_below, bulk_above, bulk_target, pages_asked}
+use Rattle.leaf_node.specs.Limits.{body_limit, bulk_above, bulk_target}
 use Rattle.leaf_model.specs.Cut.{target_of}
-
--- ---- pages
-
-module _ (size body : ℕ) (s : PageSize size) where
-  pub pages_are_asked : (body + ((size - 2) / 2 - 1)) / ((size - 2) / 2) ≡ pages_asked size body
-  unfolding merge_below body_limit
-  pages_are_asked = refl
-
-  pub few_pages_are_asked : body ≤ 8388608 → (body + ((size - 2) / 2 - 1)) / ((size - 2) / 2) ≤ 16777216
-  few_pages_are_asked h = omega (arith, div-le_self (body + ((size - 2) / 2 - 1)) ((size - 2) / 2), s.most)
 
 -- ---- the target
 
-module _ (size b : ℕ) where
-  pub many_records_are_cut_in_bulk : (size - 2) * 9 / 5 < b → Some ((size - 2) * 3 / 4) ≡ target_of size b
-  unfolding target_of bulk_above bulk_target body_limit
-  many_records_are_cut_in_bulk h = rw (target_of, lt-ltb ((size - 2) * 9 / 5) b h)
+module _ (size b above : ℕ) (e : above ≡ bulk_above size) where
+  pub many_records_are_cut_in_bulk : above < b → (target : ℕ) → target ≡ bulk_target size → Some target ≡ target_of size b
+  unfolding target_of
+  many_records_are_cut_in_bulk h target q = rw (target_of, ← e, lt-ltb above b h, q)
 
-  module _ (h : b ≤ (size - 2) * 9 / 5) where
-    pub fewer_records_are_halved : size - 2 < b → Some (b / 2) ≡ target_of size b
-    unfolding target_of bulk_above bulk_target body_limit
-    fewer_records_are_halved k = rw (target_of, le-ltb ((size - 2) * 9 / 5) b h, lt-ltb (size - 2) b k)
+  module _ (h : b ≤ above) (limit : ℕ) (q : limit ≡ body_limit size) where
+    pub fewer_records_are_halved : limit < b → Some (b / 2) ≡ target_of size b
+    unfolding target_of
+    fewer_records_are_halved k = rw (target_of, ← e, le-ltb above b h, ← q, lt-ltb limit b k)
 
-    pub few_records_are_not_cut : b ≤ size - 2 → None ≡ target_of size b
-    unfolding target_of bulk_above bulk_target body_limit
-    few_records_are_not_cut k = rw (target_of, le-ltb ((size - 2) * 9 / 5) b h, le-ltb (size - 2) b k)
+    pub few_records_are_not_cut : b ≤ limit → None ≡ target_of size b
+    unfolding target_of
+    few_records_are_not_cut k = rw (target_of, ← e, le-ltb above b h, ← q, le-ltb limit b k)

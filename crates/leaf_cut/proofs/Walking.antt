@@ -80,9 +80,6 @@ module _ (page : List ℕ) (entry : Entry) (s : Span) (h : EntryIn s.low 65536 e
 -- ---- the walk
 
 module _ (a : Aim) (list : List Entry) (page : List ℕ) (s : Span) (sp : Spread list page s) (start : Cursor) where
-  pub a_walk_starts : CursorIn list page s start → 0 < a.target → a.target ≤ a.limit → a.limit ≤ 32767 → Walked a list page s start start (record { count = 0; bytes = 0 })
-  a_walk_starts c p r m = record { there = c; ended = refl; further = omega arith; room = record { below = omega arith; reachable = r; small = m } }
-
   module _ (at : Cursor) (leaf : Gauge) (w : Walked a list page s start at leaf) where
     module _ (h : at.entry < s.used) where
       abbrev entry : Entry

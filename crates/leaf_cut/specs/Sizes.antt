@@ -35,6 +35,10 @@ cut_sizes limit target n b (s ∷ ss) = elim (ltb limit (34 * (n + 1) + (b + s))
 abbrev pub gauge_of : Ended → Gauge
 gauge_of e = record { count = e.count; bytes = e.bytes }
 
+-- a leaf's body: "n pointers of 34 bytes" and the values
+abbrev pub body_of : Gauge → ℕ
+body_of g = 34 * g.count + g.bytes
+
 -- ---- the pending records
 
 -- an insert is one record, a chunk those of the base that it names

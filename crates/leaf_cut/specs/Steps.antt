@@ -1,7 +1,7 @@
 -- What the functions require, as plain facts.
-use Rattle.std.specs.Prelude.{◌≡◌, List, ℕ, ◌+◌, ◌*◌, ◌≤◌, ◌<◌, length, get_or}
+use Rattle.std.specs.Prelude.{◌≡◌, List, ℕ, ◌+◌, ◌-◌, ◌≤◌, ◌<◌, length, get_or}
 use Rattle.leaf_node.specs.Limits.{most_page_bytes}
-use Rattle.leaf_node.specs.Page.{count}
+use Rattle.leaf_node.specs.Page.{count, length_at, run, values_size}
 use Rattle.leaf_node.specs.Steps.{Laid}
 use Rattle.leaf_work.specs.declared.Entry.{Entry}
 use Rattle.leaf_work.specs.Lent.{blank, most_store_bytes}
@@ -11,12 +11,16 @@ use Rattle.leaf_cut.specs.declared.Aim.{Aim}
 use Rattle.leaf_cut.specs.declared.Span.{Span}
 use Rattle.leaf_cut.specs.declared.Cursor.{Cursor}
 use Rattle.leaf_cut.specs.declared.Taken.{Taken}
-use Rattle.leaf_cut.specs.Sizes.{cut_sizes, entry_sizes, index_of, sizes_from}
+use Rattle.leaf_cut.specs.Sizes.{body_of, cut_sizes, entry_sizes, index_of, sizes_from, sizes_behind, count_behind, passed_by}
 
 -- a gauge of what a list and a store have room for
 pub record Modest (g : Gauge) : Type 0 where
   pub few : g.count ≤ 65536
   pub short : g.bytes ≤ most_store_bytes
+
+-- the gauge of all that is pending, by that of what is listed and a base's n records from `low` on; three quarters of 131,072 are enough for it
+abbrev pub WithRest : Gauge → List ℕ → ℕ → ℕ → Gauge → Type 0
+WithRest listed page low n g = (g.count ≡ listed.count + (n - low)) × (g.bytes ≡ listed.bytes + values_size page low n) × (g.count ≤ 98304) × (g.bytes ≤ 98304)
 
 -- the base's rest begins at `low`; a page with records is a good one
 pub record Rest (page : List ℕ) (low : ℕ) : Type 0 where
@@ -27,7 +31,7 @@ pub record Rest (page : List ℕ) (low : ℕ) : Type 0 where
 
 -- a leaf that is still below its target, which is no more than a page takes
 pub record Leaf (a : Aim) (g : Gauge) : Type 0 where
-  pub below : 34 * g.count + g.bytes < a.target
+  pub below : body_of g < a.target
   pub reachable : a.target ≤ a.limit
   pub small : a.limit ≤ most_page_bytes
 
@@ -50,6 +54,17 @@ pub record EntryAt (n : ℕ) (e : Entry) (at : Cursor) : Type 0 where
   pub chunk : (e.kind ≡ 1 → ⊥) → (e.from + at.skip ≤ e.to) × (e.to ≤ n)
   pub few : at.entry ≤ 65536
   pub short : at.skip ≤ 65536
+
+-- what a leaf took of an entry that it came to at a cursor, and the cursor behind that
+abbrev pub EntryTaken : Aim → List ℕ → Entry → Cursor → Gauge → Taken → Type 0
+EntryTaken a page e at leaf t =
+    (t.end ≡ cut_sizes a.limit a.target leaf.count leaf.bytes (sizes_behind page e at.skip)) × (t.at ≡ passed_by at (count_behind e at.skip) (t.end.count - leaf.count))
+
+-- what it took of the rest of a base of n records, behind the first `skip`
+abbrev pub RestTaken : Aim → List ℕ → ℕ → Span → ℕ → Gauge → Taken → Type 0
+RestTaken a page n s skip leaf t =
+    (t.end ≡ cut_sizes a.limit a.target leaf.count leaf.bytes (run (n - (s.low + skip)) (s.low + skip) (length_at page)))
+    × (t.at ≡ record { entry = s.used; skip = skip + (t.end.count - leaf.count) })
 
 -- a leaf that began at `start` and has come to `at`
 pub record Walked (a : Aim) (list : List Entry) (page : List ℕ) (s : Span) (start at : Cursor) (leaf : Gauge) : Type 0 where

@@ -1,16 +1,16 @@
-// Cutting the pending records into leaves: how large they are, and where each leaf ends. It reads rows and base page, and no value.
+// Cutting the pending records into leaves: how large they are, and where each leaf ends. It reads entries and base page, and no value.
 // Ported from nomt/src/beatree/ops/update/leaf_updater.rs of thrumdev/nomt: `LeafGauge`, `consume_and_update_until` and `try_split_keep_chunk`.
 #![tactic(auto)]
 
-ghost use Rattle.std.specs.Prelude.{◌≡◌, ◌&&◌, [], ◌∷◌, ◌+◌, ◌-◌, ◌*◌, ◌≤◌, leb};
-ghost use Rattle.leaf_node.specs.Limits.{PageSize, pages_asked};
-ghost use Rattle.leaf_node.specs.Page.{length_at, run, values_size};
+ghost use Rattle.std.specs.Prelude.{◌≡◌, ◌&&◌, [], ◌∷◌, ◌+◌, ◌-◌, ◌*◌, ◌^◌, ◌≤◌, ◌<◌, leb};
+ghost use Rattle.leaf_node.specs.Limits.{pages_asked};
+ghost use Rattle.leaf_node.specs.Page.{length_at, run};
 ghost use Rattle.leaf_model.specs.Cut.{target_of};
-ghost use Rattle.leaf_cut.specs.Sizes.{cut_sizes, gauge_of, sizes_behind, count_behind, passed_by};
+ghost use Rattle.leaf_cut.specs.Sizes.{cut_sizes, gauge_of, body_of, passed_by};
 ghost use Rattle.leaf_cut.specs.Records.{span_of};
-ghost use Rattle.leaf_cut.specs.Steps.{Modest, Leaf, EntryAt};
+ghost use Rattle.leaf_cut.specs.Steps.{Modest, WithRest, Leaf, EntryAt, EntryTaken, RestTaken};
 
-use leaf_node::LeafNode;
+use leaf_node::{LeafNode, Size};
 use leaf_work::{Entry, Work};
 
 // How many records, and how many bytes their values have.
@@ -18,6 +18,16 @@ use leaf_work::{Entry, Work};
 pub struct Gauge {
     pub count: usize,
     pub bytes: usize,
+}
+
+impl Gauge {
+    // The body of a leaf with these records.
+    pub fn body(self) -> usize
+        requires { 34 * self.count + self.bytes < 2 ^ 64 }
+        ensures { result ≡ body_of self }
+    {
+        34 * self.count + self.bytes
+    }
 }
 
 // The body that a leaf aims at, and the most that a page takes.
@@ -48,6 +58,18 @@ pub struct Ended {
     pub cut: bool,
     pub count: usize,
     pub bytes: usize,
+}
+
+impl Ended {
+    fn new(cut: bool, leaf: Gauge) -> Ended
+        ensures { result ≡ record { cut = cut; count = leaf.count; bytes = leaf.bytes } }
+    {
+        Ended {
+            cut,
+            count: leaf.count,
+            bytes: leaf.bytes,
+        }
+    }
 }
 
 impl From<Ended> for Gauge {
@@ -82,7 +104,7 @@ pub fn span_of(work: &Work) -> Span
 // The gauge of all pending records, by that of the listed ones: the base's rest, from `low` on, is added.
 pub fn pending_gauge(listed: Gauge, node: LeafNode, low: usize) -> Gauge
     requires { (low ≤ node.n) × (Modest listed) }
-    ensures { (result.count ≡ listed.count + (node.entry.n - low)) × (result.bytes ≡ listed.bytes + values_size node.entry.page.now low node.entry.n) × (result.count ≤ 98304) × (result.bytes ≤ 98304) }
+    ensures { WithRest listed node.entry.page.now low node.entry.n result }
 {
     Gauge {
         count: listed.count + (node.n - low),
@@ -91,33 +113,32 @@ pub fn pending_gauge(listed: Gauge, node: LeafNode, low: usize) -> Gauge
 }
 
 // How many pages a digest of pending records with this body asks for.
-fn pages_asked(body: usize, size: usize) -> usize
-    requires { (PageSize size) × (body ≤ 8388608) }
-    ensures { (result ≡ pages_asked size body) × (result ≤ 16777216) }
+fn pages_asked(body: usize, size: Size) -> usize
+    requires { body ≤ 8388608 }
+    ensures { (result ≡ pages_asked size.bytes body) × (result ≤ 16777216) }
 {
-    let least = (size - 2) / 2;
+    let least = size.merge_below();
     (body + (least - 1)) / least
 }
 
 // Whether area and tickets have room for the pages that a digest asks for, with 65 ticket bytes a page.
-pub fn has_pages(pending: Gauge, area: usize, tickets: usize, size: usize) -> bool
-    requires { (PageSize size) × (pending.count ≤ 98304) × (pending.bytes ≤ 98304) }
-    ensures { result ≡ (leb (pages_asked size (34 * pending.count + pending.bytes) * size) area && leb (pages_asked size (34 * pending.count + pending.bytes) * 65) tickets) }
+pub fn has_pages(pending: Gauge, area: usize, tickets: usize, size: Size) -> bool
+    requires { (pending.count ≤ 98304) × (pending.bytes ≤ 98304) }
+    ensures { result ≡ (leb (pages_asked size.bytes (body_of pending) * size.bytes) area && leb (pages_asked size.bytes (body_of pending) * 65) tickets) }
 {
-    let asked = pages_asked(34 * pending.count + pending.bytes, size);
-    (asked * size <= area) & (asked * 65 <= tickets)
+    let asked = pages_asked(pending.body(), size);
+    (asked * size.bytes <= area) & (asked * 65 <= tickets)
 }
 
 // The body that each leaf aims at where leaves are cut off pending records with this body, in bulk or in halves.
-pub fn target_of(body: usize, size: usize) -> Option<usize>
-    requires { (PageSize size) × (body ≤ 8388608) }
-    ensures { result ≡ target_of size body }
+pub fn target_of(body: usize, size: Size) -> Option<usize>
+    requires { body ≤ 8388608 }
+    ensures { result ≡ target_of size.bytes body }
 {
-    let limit = size - 2;
-    if limit * 9 / 5 < body {
-        return Some(limit * 3 / 4);
+    if size.bulk_above() < body {
+        return Some(size.bulk_target());
     }
-    if limit < body {
+    if size.body_limit() < body {
         return Some(body / 2);
     }
     None
@@ -130,19 +151,15 @@ fn consume_insert(value: usize, leaf: Gauge, aim: Aim) -> Ended
     requires { (value ≤ 65536) × (Leaf aim leaf) }
     ensures { result ≡ cut_sizes aim.limit aim.target leaf.count leaf.bytes (value ∷ []) }
 {
-    let after = 34 * (leaf.count + 1) + (leaf.bytes + value);
-    if aim.limit < after {
-        return Ended {
-            cut: true,
-            count: leaf.count,
-            bytes: leaf.bytes,
-        };
-    }
-    Ended {
-        cut: aim.target <= after,
+    let after = Gauge {
         count: leaf.count + 1,
         bytes: leaf.bytes + value,
+    };
+    let body = after.body();
+    if aim.limit < body {
+        return Ended::new(true, leaf);
     }
+    Ended::new(aim.target <= body, after)
 }
 
 // A leaf that comes to a chunk: record by record, until the target is reached or a record would pass the limit.
@@ -150,33 +167,22 @@ fn try_split_keep_chunk(node: LeafNode, from: usize, to: usize, leaf: Gauge, aim
     requires { (from ≤ to) × (to ≤ node.n) × (Leaf aim leaf) }
     ensures { result ≡ cut_sizes aim.limit aim.target leaf.count leaf.bytes (run (to - from) from (length_at node.entry.page.now)) }
 {
-    let mut count = leaf.count;
-    let mut bytes = leaf.bytes;
+    let mut so_far = leaf;
     for i in from..to {
-        let value = node.size_between(i, i + 1);
-        let after = 34 * (count + 1) + (bytes + value);
-        if aim.limit < after {
-            return Ended {
-                cut: true,
-                count,
-                bytes,
-            };
+        let after = Gauge {
+            count: so_far.count + 1,
+            bytes: so_far.bytes + node.size_between(i, i + 1),
+        };
+        let body = after.body();
+        if aim.limit < body {
+            return Ended::new(true, so_far);
         }
-        count += 1;
-        bytes += value;
-        if aim.target <= after {
-            return Ended {
-                cut: true,
-                count,
-                bytes,
-            };
+        if aim.target <= body {
+            return Ended::new(true, after);
         }
+        so_far = after;
     }
-    Ended {
-        cut: false,
-        count,
-        bytes,
-    }
+    Ended::new(false, so_far)
 }
 
 // A leaf that comes to base records `from` up to `to`: it takes them whole where its body stays below the target.
@@ -184,14 +190,12 @@ fn consume_chunk(node: LeafNode, from: usize, to: usize, leaf: Gauge, aim: Aim) 
     requires { (from ≤ to) × (to ≤ node.n) × (Leaf aim leaf) }
     ensures { result ≡ cut_sizes aim.limit aim.target leaf.count leaf.bytes (run (to - from) from (length_at node.entry.page.now)) }
 {
-    let count = leaf.count + (to - from);
-    let bytes = leaf.bytes + node.size_between(from, to);
-    if 34 * count + bytes < aim.target {
-        return Ended {
-            cut: false,
-            count,
-            bytes,
-        };
+    let after = Gauge {
+        count: leaf.count + (to - from),
+        bytes: leaf.bytes + node.size_between(from, to),
+    };
+    if after.body() < aim.target {
+        return Ended::new(false, after);
     }
     try_split_keep_chunk(node, from, to, leaf, aim)
 }
@@ -218,7 +222,7 @@ fn pass(at: Cursor, all: usize, taken: usize) -> Cursor
 // A leaf that comes to an entry.
 pub fn consume_entry(entry: &Entry, node: LeafNode, at: Cursor, leaf: Gauge, aim: Aim) -> Taken
     requires { (EntryAt node.n entry.now at) × (Leaf aim leaf) }
-    ensures { (result.end ≡ cut_sizes aim.limit aim.target leaf.count leaf.bytes (sizes_behind node.entry.page.now entry.now at.skip)) × (result.at ≡ passed_by at (count_behind entry.now at.skip) (result.end.count - leaf.count)) }
+    ensures { EntryTaken aim node.entry.page.now entry.now at leaf result }
 {
     if entry.is_insert() {
         let end = consume_insert(entry.to - entry.from, leaf, aim);
@@ -238,7 +242,7 @@ pub fn consume_entry(entry: &Entry, node: LeafNode, at: Cursor, leaf: Gauge, aim
 // A leaf that comes to the base's rest.
 pub fn consume_rest(node: LeafNode, span: Span, skip: usize, leaf: Gauge, aim: Aim) -> Taken
     requires { (span.low + skip ≤ node.n) × (Leaf aim leaf) }
-    ensures { (result.end ≡ cut_sizes aim.limit aim.target leaf.count leaf.bytes (run (node.entry.n - (span.low + skip)) (span.low + skip) (length_at node.entry.page.now))) × (result.at ≡ record { entry = span.used; skip = skip + (result.end.count - leaf.count) }) }
+    ensures { RestTaken aim node.entry.page.now node.entry.n span skip leaf result }
 {
     let end = consume_chunk(node, span.low + skip, node.n, leaf, aim);
     Taken {

@@ -1,6 +1,6 @@
 -- What an accepted digest may rely on. Assumes nothing.
 use mathlib.Core.Logic.{inl}
-use mathlib.Core.Path.{◌≡◌, refl, sym}
+use mathlib.Core.Path.{◌≡◌}
 use mathlib.Core.Bool.{true}
 use mathlib.Core.List.{List}
 use Prim.Native.Nat.{ℕ, ◌*◌, ◌≤◌}
@@ -22,8 +22,6 @@ use Rattle.leaf_work.proofs.Tests.{passed, first_passed}
 use Rattle.leaf_work.proofs.Laid.{pending_parts}
 use Rattle.leaf_work.proofs.Readiness as readiness
 use Rattle.leaf_work.proofs.PendingRecords.{EntryKeyed, pending_keys_have_32_bytes, pending_values_are_fitting}
-use Rattle.leaf_check.specs.Settled.{Regardable}
-use Rattle.leaf_check.proofs.Verdicts.{the_regarded_is_good}
 use Rattle.leaf_give.specs.Giving.{Gives}
 use Rattle.leaf_digest.specs.Steps.{Digests}
 use Rattle.leaf_digest.proofs.Numbers.{the_pending_records_are_counted, the_pending_values_are_summed}
@@ -44,9 +42,6 @@ module _ (size : ℕ) (w : Work) (list : List Entry) (store page area tickets : 
 
   abbrev asked : ℕ
   asked = pages_asked size (body given)
-
-  pub the_regarded_page_can_be_counted : (p : List ℕ) → p ≡ regarded w page → Regardable size p
-  the_regarded_page_can_be_counted p r = the_regarded_is_good size w list store page 0 (sym (readiness.rows size w list store page lent_earns_nothing).base) refl p r
 
   module _ (q : PageSize size) where
     pub an_accepted_work_is_ready : Ready w list store (regarded w page)

@@ -1,7 +1,7 @@
 -- A digest of what earns no refusal: what its parts require, and that they leave the outcome. Assumes nothing.
 use mathlib.Core.Path.{◌≡◌, refl, sym, ap, ◌∙◌}
 use mathlib.Core.List.{List, [], ◌∷◌, ◌++◌}
-use Prim.Native.Nat.{ℕ, ◌-◌, ◌≤◌}
+use Prim.Native.Nat.{ℕ, ◌-◌}
 use native.Mathlib.Omega.{arith}
 use lib.ListN.{length, replicate}
 use Rattle.bit_ops.specs.Steps.{zeros}
@@ -12,8 +12,8 @@ use Rattle.leaf_work.specs.declared.Entry.{Entry}
 use Rattle.leaf_work.specs.Lent.{blank}
 use Rattle.leaf_work.specs.Digest as outcome
 use Rattle.leaf_give.specs.declared.Progress.{Progress}
-use Rattle.leaf_give.specs.Giving.{pending, planned, GivenOut}
-use Rattle.leaf_merge.specs.Keeping.{RoomToKeep, Keeps, KeptAs}
+use Rattle.leaf_give.specs.Giving.{planned, GivenOut}
+use Rattle.leaf_merge.specs.Keeping.{KeptAs}
 use Rattle.leaf_digest.specs.Steps.{digest_work_by, Digests, Leaves}
 use Rattle.leaf_digest.proofs.After.{the_work_after_a_digest}
 
@@ -37,23 +37,6 @@ module _ (size : ℕ) (w : Work) (list : List Entry) (store page area tickets : 
   done = outcome.digest_done size w list store area tickets P
 
   module _ (p : Progress) (area' tickets' : List ℕ) (g : GivenOut size w list store page area tickets p area' tickets') where
-    -- it may be raised to a row that leaves room for it beside the used entries, or for all that is pending
-    pub what_is_left_can_be_kept_below : (room : ℕ) → room ≤ length list → w.used ≤ room → RoomToKeep room (length (pending size w list store page)) w.used p.left.count
-        → Keeps w list store page p.at p.left room
-    what_is_left_can_be_kept_below room i u r = record {
-      ready = d.gives.ready;
-      in_place = d.in_place;
-      unused = d.unused;
-      counted = d.gives.counted;
-      summed = d.gives.summed;
-      there = g.there;
-      left_counted = g.count_is ∙ sym (ap length g.left_is);
-      left_summed = g.bytes_is ∙ sym (ap total g.left_is);
-      room_in = i;
-      used_room = u;
-      room_is = r;
-    }
-
     module _ (list' : List Entry) (store' : List ℕ) (k : KeptAs w list store page p.at list' store') where
       list_is : list' ≡ done.list
       list_is = k.list_is ∙ ap (λ (x : List Record). outcome.inserts_of 0 x ++ replicate (length list - length x) blank) g.left_is

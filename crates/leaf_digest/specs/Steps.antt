@@ -5,12 +5,18 @@ use Rattle.leaf_model.specs.Work.{Waiting, Done, zero_key}
 use Rattle.leaf_work.specs.declared.Work.{Work}
 use Rattle.leaf_work.specs.declared.Entry.{Entry}
 use Rattle.leaf_work.specs.Tests.{every, is_zero, is_set, bit}
-use Rattle.leaf_work.specs.Lent.{turn_number}
+use Rattle.leaf_work.specs.Lent.{turn_number, regarded}
+use Rattle.leaf_work.specs.Pending.{pending_of}
+use Rattle.leaf_work.specs.Verdict.{lent_verdict, digest_verdict}
 use Rattle.leaf_work.specs.Sound.{placed}
 use Rattle.leaf_work.specs.Digest as outcome
 use Rattle.leaf_cut.specs.declared.Gauge.{Gauge}
 use Rattle.leaf_give.specs.Giving.{Gives, pending, planned}
 use Rattle.leaf_merge.specs.Keeping.{RoomToKeep}
+
+-- the number of a digest by all that is lent
+abbrev pub lent_digest_verdict : ℕ → Work → List Entry → List ℕ → List ℕ → List ℕ → List ℕ → ℕ
+lent_digest_verdict size w list store page area tickets = digest_verdict size w (pending_of w list store (regarded w page)) area tickets (lent_verdict size w list store page)
 
 -- "B is the body size of all pending records": what is listed, and the base's rest from `low` on
 unfoldable pub body_with : Gauge → List ℕ → ℕ → ℕ

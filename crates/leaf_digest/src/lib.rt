@@ -1,20 +1,17 @@
-// The digest of a work: its number, its leaves, and what it leaves behind.
+// The digest of a work: the base that it goes over or what refuses it, the work record that it leaves, and its reply for C.
 // Ported from nomt/src/beatree/ops/update/leaf_updater.rs of thrumdev/nomt: `LeafUpdater::digest`.
 #![tactic(auto)]
 
 ghost use Rattle.std.specs.Prelude.{◌≡◌, cond, IfOk};
 ghost use Rattle.refusal.specs.Numbers.{number_of};
-ghost use Rattle.leaf_node.specs.Limits.{PageSize};
 ghost use Rattle.leaf_work.specs.Tests.{is_set};
 ghost use Rattle.leaf_work.specs.Lent.{regarded};
-ghost use Rattle.leaf_work.specs.Pending.{pending_of};
-ghost use Rattle.leaf_work.specs.Verdict.{lent_verdict, digest_verdict};
 ghost use Rattle.leaf_digest.specs.Reply.{gave_out, reply_of};
-ghost use Rattle.leaf_digest.specs.Steps.{digest_work_by};
+ghost use Rattle.leaf_digest.specs.Steps.{lent_digest_verdict, digest_work_by};
 
 use leaf_check::lent_base;
 use leaf_cut::{Gauge, has_pages, pending_gauge};
-use leaf_node::LeafNode;
+use leaf_node::{LeafNode, Size};
 use leaf_work::{Entry, Work};
 use refusal::Refusal;
 
@@ -75,7 +72,7 @@ impl From<Result<Given, Refusal>> for LeafGave {
 
 // ---- the number
 
-// The base as the work regards it, or what refuses a digest.
+// The base as the work regards it, or what refuses a digest. What is lent is lent alone by C, and each is read here a single time.
 pub fn digest_base<'a>(
     work: &Work,
     list: &[Entry],
@@ -83,10 +80,9 @@ pub fn digest_base<'a>(
     page: &'a [u8],
     area: &[u8],
     tickets: &[u8],
-    size: usize,
+    size: Size,
 ) -> Result<LeafNode<'a>, Refusal>
-    requires { PageSize size }
-    ensures number { number_of result ≡ digest_verdict size work.now (pending_of work.now list.now store.now (regarded work.now page.now)) area.now tickets.now (lent_verdict size work.now list.now store.now page.now) }
+    ensures number { number_of result ≡ lent_digest_verdict size.bytes work.now list.now store.now page.now area.now tickets.now }
     ensures base { IfOk result (λ node. node.page.now ≡ regarded work.now page.now) }
 {
     let node = lent_base(work, list, store, page, size)?;

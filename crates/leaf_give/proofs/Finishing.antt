@@ -27,13 +27,13 @@ use Rattle.leaf_cut.specs.declared.Gauge.{Gauge}
 use Rattle.leaf_cut.specs.declared.Span.{Span}
 use Rattle.leaf_cut.specs.declared.Cursor.{Cursor}
 use Rattle.leaf_cut.specs.Records.{span_of, records_from}
-use Rattle.leaf_cut.specs.Steps.{Modest, CursorIn, Kept}
+use Rattle.leaf_cut.specs.Steps.{CursorIn, Kept}
 use Rattle.leaf_cut.proofs.Records.{what_is_ready_is_kept}
 use Rattle.leaf_write.proofs.Leaves.{rest_many}
 use Rattle.leaf_give.specs.declared.Progress.{Progress}
 use Rattle.leaf_give.specs.declared.Beginning.{Beginning}
 use Rattle.leaf_give.specs.Giving.{pending, Gives, GivenOut}
-use Rattle.leaf_give.specs.Steps.{LeafThere, LeafGiven, Along, Begun, listed_in, BegunBy}
+use Rattle.leaf_give.specs.Steps.{LeafThere, LeafGiven, Along, Begun, BegunBy}
 use Rattle.leaf_give.proofs.Separating.{the_pages_are_those_of_the_records}
 use Rattle.leaf_give.proofs.Onward.{no_leaf_is_given_yet, the_area_has_room, the_tickets_have_room, one_more_leaf_is_given}
 use Rattle.leaf_give.proofs.LeafByLeaf.{left_keyed, left_rises}
@@ -73,12 +73,6 @@ module _ (size : ℕ) (w : Work) (list : List Entry) (store page area tickets : 
   all = pending size w list store page
 
   -- ---- the start
-
-  pub what_is_listed_is_modest : Modest (listed_in w)
-  what_is_listed_is_modest = record {
-    few = omega (arith, g.ready.few);
-    short = omega (arith, g.ready.store_room, g.ready.store_short);
-  }
 
   module _ (n : ℕ) (e : n ≡ count page) where
     module _ (b : Beginning) (h : BegunBy size w page n b) where

@@ -4,7 +4,7 @@ use mathlib.Core.Bool.{Bool, true, false}
 use mathlib.Core.Option.{none, some}
 use Rattle.std.specs.Prelude.{Some}
 use mathlib.Core.List.{List, [], ◌∷◌, ◌++◌, append-nil, append_assoc}
-use Prim.Native.Nat.{ℕ, ◌+◌, ◌-◌, ◌≤◌, ◌<◌}
+use Prim.Native.Nat.{ℕ, ◌+◌, ◌≤◌, ◌<◌}
 use native.Mathlib.Omega.{arith}
 use lib.ListN.{length, take, drop, length-append, take-append-drop}
 use lib.Seq.{length-take-le}
@@ -27,8 +27,8 @@ use Rattle.leaf_cut.specs.declared.Gauge.{Gauge}
 use Rattle.leaf_cut.specs.declared.Cursor.{Cursor}
 use Rattle.leaf_cut.specs.declared.Taken as code
 use Rattle.leaf_cut.specs.Records.{span_of, records_from}
-use Rattle.leaf_cut.specs.Steps.{Spread, CursorIn, Leafed}
-use Rattle.leaf_cut.proofs.Records.{taken_by, what_is_ready_is_spread, what_is_ready_is_kept, cutting_by_chunks_is_cutting_by_records, the_cursor_stands_behind_the_leaf, the_leaf_has_its_bytes, the_leaf_has_its_records}
+use Rattle.leaf_cut.specs.Steps.{CursorIn, Leafed}
+use Rattle.leaf_cut.proofs.Records.{taken_by, what_is_ready_is_kept, cutting_by_chunks_is_cutting_by_records, the_cursor_stands_behind_the_leaf, the_leaf_has_its_bytes, the_leaf_has_its_records}
 use Rattle.leaf_give.specs.declared.Progress.{Progress}
 use Rattle.leaf_give.specs.Giving.{pending, Gives}
 use Rattle.leaf_give.specs.Steps.{aim_of, LeafThere, LeafGiven, Along, Begun}
@@ -88,10 +88,9 @@ module _ (size : ℕ) (w : Work) (list : List Entry) (store page area tickets : 
     module _ (e : target_of size (body all) ≡ Some target) where
       -- what seeking a leaf requires
       a_leaf_can_be_sought : (at : Cursor) → CursorIn list page (span_of w) at
-          → (Spread list page (span_of w)) × (CursorIn list page (span_of w) at) × (0 < target) × (target ≤ size - 2) × (size - 2 ≤ 32767)
+          → (CursorIn list page (span_of w) at) × (0 < target) × (target ≤ body_limit size) × (body_limit size ≤ 32767)
       unfolding body_limit
       a_leaf_can_be_sought at h = (
-        what_is_ready_is_spread w list store page g.ready,
         h,
         omega (arith, target_enough size g.sized (body all) target e, (limits_agree size g.sized).some_body),
         target_fits size g.sized (body all) target e,
@@ -103,7 +102,7 @@ module _ (size : ℕ) (w : Work) (list : List Entry) (store page area tickets : 
       all_cut = rw (e, cut_all)
 
       pub the_first_leaf_can_be_sought : (p : Progress) → Begun size w list store page p
-          → (Spread list page (span_of w)) × (CursorIn list page (span_of w) p.at) × (0 < target) × (target ≤ size - 2) × (size - 2 ≤ 32767)
+          → (CursorIn list page (span_of w) p.at) × (0 < target) × (target ≤ body_limit size) × (body_limit size ≤ 32767)
       the_first_leaf_can_be_sought p b = a_leaf_can_be_sought p.at (no_leaf_is_given_yet size w list store page area tickets g p b).there
 
       pub cutting_begins : (p : Progress) → Begun size w list store page p → (next : code.Taken) → Leafed (aim_of size target) list page (span_of w) p.at next → Cutting size w list store page area tickets target p area tickets next
@@ -217,7 +216,7 @@ module _ (size : ℕ) (w : Work) (list : List Entry) (store page area tickets : 
             along_further : Along size w list store page area tickets (record { leaves = c.leaves ++ (l ∷ []); left = b }) r a' t'
             along_further = one_more_leaf_is_given size w list store page area tickets g c p a t i.along leaf next.at leaf_there r a' t' given
 
-            pub the_next_leaf_can_be_sought : (Spread list page (span_of w)) × (CursorIn list page (span_of w) r.at) × (0 < target) × (target ≤ size - 2) × (size - 2 ≤ 32767)
+            pub the_next_leaf_can_be_sought : (CursorIn list page (span_of w) r.at) × (0 < target) × (target ≤ body_limit size) × (body_limit size ≤ 32767)
             the_next_leaf_can_be_sought = a_leaf_can_be_sought r.at along_further.there
 
             pub cutting_goes_on : (next' : code.Taken) → Leafed (aim_of size target) list page (span_of w) r.at next' → Cutting size w list store page area tickets target r a' t' next'

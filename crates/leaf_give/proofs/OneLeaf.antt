@@ -1,17 +1,16 @@
 -- One leaf: its page in the area, its ticket, and what follows it. Assumes nothing.
 use mathlib.Core.Path.{◌≡◌, refl, sym, ap, subst, ◌∙◌}
-use mathlib.Core.Bool.{Bool, true, ◌&&◌}
-use mathlib.Core.Option.{Option, none}
+use mathlib.Core.Bool.{true}
+use mathlib.Core.Option.{Option}
 use mathlib.Core.List.{List, [], ◌∷◌, ◌++◌, append_assoc}
-use Prim.Native.Nat.{ℕ, ◌+◌, ◌-◌, ◌*◌, ◌/◌, ◌^◌, ◌≤◌, ◌<◌}
+use Prim.Native.Nat.{ℕ, ◌+◌, ◌-◌, ◌*◌, ◌^◌, ◌≤◌, ◌<◌}
 use native.Mathlib.Omega.{arith}
 use native.Mathlib.Nat.{mul-le-mul_left}
-use lib.Dec.{ltb}
 use lib.ListN.{length, take, drop, length-append, length-drop, take-append-drop}
 use lib.Seq.{length-take-le, take_at, drop_at, drop-drop}
 use borrow.Rule.Slice.PartMut.{put_mid}
 use Rattle.bit_ops.specs.Separate.{separate_of, separate_leaves}
-use Rattle.leaf_node.specs.Limits.{body_limit, merge_below}
+use Rattle.leaf_node.specs.Limits.{body_limit}
 use Rattle.leaf_node.specs.Record.{Record, total}
 use Rattle.leaf_node.specs.Page.{pointer, key_at}
 use Rattle.leaf_node.specs.Build.{put, build}
@@ -40,9 +39,6 @@ module _ (d : List ℕ) (from size : ℕ) (room : from + size ≤ length d) wher
       rw e (length-take-le size (drop from d) (rw (length-drop from d) (omega arith)))
 
   module _ (leaf : Gauge) (rs : List Record) (f : LeafFits size leaf rs) where
-    pub a_part_takes_the_page : LeafFits (length (take (from + size - from) (drop from d))) leaf rs
-    a_part_takes_the_page = rw part_long f
-
     pub a_page_is_put : (x : List ℕ) → x ≡ build (length (take (from + size - from) (drop from d))) (take leaf.count rs)
         → put_mid from (from + size - from) d x ≡ put d from (build size (take leaf.count rs))
     unfolding put
@@ -52,13 +48,6 @@ module _ (d : List ℕ) (from size : ℕ) (room : from + size ≤ length d) wher
         let l : length b ≡ size = a_built_page_is_full_length size (take leaf.count rs) f.fits in
         let y : x ≡ b = q ∙ ap (λ (n : ℕ). build n (take leaf.count rs)) part_long in
         rw (y, e, drop-drop size from d, l) (sym (append_assoc (take from d) b (drop (from + size) d)))
-
--- ---- the ticket
-
-module _ (tickets : List ℕ) (place : ℕ) (own : List ℕ) (cutoff : Option (List ℕ)) (tickets' : List ℕ) (after : ℕ) where
-  pub a_ticket_before_none : tickets' ≡ put tickets place (packed_with own cutoff) → after ≡ place + length (packed_with own cutoff) → after ≤ place + 65
-      → TicketGiven none cutoff tickets place own after own tickets'
-  a_ticket_before_none t a s = record { tickets_are = t; place_is = a; short = s; separator_is = refl }
 
 -- ---- page and ticket
 
@@ -113,6 +102,14 @@ module _ (size : ℕ) (list : List Entry) (store page : List ℕ) (s : Span) (p 
       let m : p.leaves * 1 ≤ p.leaves * size = mul-le-mul_left p.leaves one in
       omega (arith, m, h.page_room_lem)
 
+  pub a_ticket_can_be_given : area < 2 ^ 64 → TicketAsked p leaf tickets
+  a_ticket_can_be_given f = record {
+    fewer = omega (arith, h.fits.there, h.count_is);
+    less = few_bytes_are_taken;
+    room = h.ticket_room;
+    few = omega (arith, f, few_leaves_are_given);
+  }
+
   page_long : length (build size l) ≡ size
   page_long = a_built_page_is_full_length size l h.fits.fits
 
@@ -135,16 +132,6 @@ module _ (size : ℕ) (list : List Entry) (store page : List ℕ) (s : Span) (p 
     the_last_key_is_there =
         let e : length part ≡ size = ap length part_is ∙ page_long in
         omega (arith, e, h.fits.fits.room, h.fits.fits.sized.least, body_is_pointers_and_values l, many, h.some_record)
-
-    pub a_ticket_can_be_given : area < 2 ^ 64 → TicketAsked p leaf (length (take (p.leaves * size + size - p.leaves * size) (drop (p.leaves * size) built))) tickets
-    a_ticket_can_be_given f = record {
-      fewer = omega (arith, h.fits.there, h.count_is);
-      less = few_bytes_are_taken;
-      some_record = h.some_record;
-      last = the_last_key_is_there;
-      room = h.ticket_room;
-      few = omega (arith, f, few_leaves_are_given);
-    }
 
     abbrev last : List ℕ
     last = key_at (take (p.leaves * size + size - p.leaves * size) (drop (p.leaves * size) built)) (leaf.count - 1)
@@ -181,9 +168,3 @@ module _ (size : ℕ) (list : List Entry) (store page : List ℕ) (s : Span) (p 
     a_leaf_is_given cutoff lent first r lent' k e t =
         let f : first ≡ first_key b = k ∙ sym (the_first_key_is_that_of_the_first_record list store page s h.kept at h.behind_in) in
         subst (λ (z : Progress). LeafGiven size list store page s p leaf at cutoff held lent z built lent') (sym e) (given cutoff lent r.place r.separator lent' (rw f at t))
-
--- ---- what is left
-
-pub a_small_body_is_below_the_limit : (size : ℕ) (cut : Bool) (b : ℕ) → (cut && ltb b ((size - 2) / 2)) ≡ (cut && ltb b (merge_below size))
-unfolding merge_below body_limit
-a_small_body_is_below_the_limit size cut b = refl

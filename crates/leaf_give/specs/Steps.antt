@@ -4,7 +4,7 @@ use Rattle.std.proofs.Math.Option.{Option, none, some}
 use Rattle.bit_ops.specs.Separate.{separate_leaves}
 use Rattle.leaf_node.specs.Limits.{body_limit}
 use Rattle.leaf_node.specs.Record.{Record, total}
-use Rattle.leaf_node.specs.Page.{pointer, values_size}
+use Rattle.leaf_node.specs.Page.{values_size}
 use Rattle.leaf_node.specs.Build.{put, build}
 use Rattle.leaf_node.specs.Ticket.{packed_with}
 use Rattle.leaf_node.specs.Fits.{All, Fits}
@@ -19,6 +19,8 @@ use Rattle.leaf_cut.specs.declared.Gauge.{Gauge}
 use Rattle.leaf_cut.specs.declared.Aim.{Aim}
 use Rattle.leaf_cut.specs.declared.Span.{Span}
 use Rattle.leaf_cut.specs.declared.Cursor.{Cursor}
+use Rattle.leaf_cut.specs.declared.Taken.{Taken}
+use Rattle.leaf_cut.specs.Sizes.{gauge_of, body_of}
 use Rattle.leaf_cut.specs.Records.{span_of, first_cursor, records_from}
 use Rattle.leaf_cut.specs.Steps.{CursorIn, Kept}
 use Rattle.leaf_write.specs.Filling.{LeafFits}
@@ -33,12 +35,10 @@ abbrev pub progress_of : Progress → Gauge → Cursor → ℕ → List ℕ → 
 progress_of p leaf at place separator =
     record { at = at; left = record { count = p.left.count - leaf.count; bytes = p.left.bytes - leaf.bytes }; leaves = p.leaves + 1; place = place; separator = separator }
 
--- a leaf's page has `built` bytes, and there are `tickets` bytes for tickets
-pub record TicketAsked (p : Progress) (leaf : Gauge) (built tickets : ℕ) : Type 0 where
+-- there are `tickets` bytes for tickets
+pub record TicketAsked (p : Progress) (leaf : Gauge) (tickets : ℕ) : Type 0 where
   pub fewer : leaf.count ≤ p.left.count
   pub less : leaf.bytes ≤ p.left.bytes
-  pub some_record : 0 < leaf.count
-  pub last : pointer (leaf.count - 1 + 1) ≤ built
   pub room : p.place + 65 ≤ tickets
   pub few : p.leaves + 1 < 2 ^ 64
 
@@ -58,6 +58,11 @@ pub record TicketGiven (between cutoff : Option (List ℕ)) (tickets : List ℕ)
   pub place_is : next ≡ place + length (packed_with separator (first_of between cutoff))
   pub short : next ≤ place + 65
   pub separator_is : separator' ≡ or_else between separator
+
+-- how far a digest has come with a leaf and its ticket
+abbrev pub FurtherBy : Progress → Taken → Option (List ℕ) → Option (List ℕ) → List ℕ → Progress → List ℕ → Type 0
+FurtherBy p t next cutoff tickets r tickets' =
+    (r ≡ progress_of p (gauge_of t.end) t.at r.place r.separator) × (TicketGiven next cutoff tickets p.place p.separator r.place r.separator tickets')
 
 -- ---- one leaf, behind which stands the cursor `at`
 
@@ -138,7 +143,7 @@ module _ (size : ℕ) (w : Work) (page : List ℕ) (n : ℕ) where
     pub count_is : b.start.left.count ≡ w.count + (n - w.low)
     pub bytes_is : b.start.left.bytes ≡ w.bytes + values_size page w.low n
     pub separator_is : b.start.separator ≡ separator_of w
-    pub target_is : b.target ≡ target_of size (34 * b.start.left.count + b.start.left.bytes)
+    pub target_is : b.target ≡ target_of size (body_of b.start.left)
 
 -- ---- cutting
 

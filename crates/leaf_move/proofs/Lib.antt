@@ -1,5 +1,5 @@
 -- The laws of moving within a list.
 pub mod Under
-pub mod Forward
+pub mod Lowering
 pub mod Settling
 pub mod Within

@@ -5,16 +5,12 @@ use Prim.Native.Nat.{ℕ, suc, ◌+◌, ◌-◌, ◌≤◌, ◌<◌}
 use native.Mathlib.Omega.{arith}
 use lib.ListN.{length}
 use Rattle.leaf_node.specs.Page.{count, start, record_at, run, records_between}
-use Rattle.leaf_node.specs.Steps.{Readable}
 use Rattle.leaf_node.proofs.Laying.{start_inside}
 use Rattle.leaf_raise.specs.Raising.{RecordThere}
 
 -- ---- a record of the base
 
 module _ (page : List ℕ) (i : ℕ) (h : RecordThere page i) where
-  pub a_record_of_the_base_is_readable : Readable page i
-  a_record_of_the_base_is_readable = record { inside = h.laid.inside; there = h.there; step = h.laid.steps i h.there }
-
   pub its_value_ends_in_the_page : start page (i + 1) ≤ length page
   its_value_ends_in_the_page = start_inside page (count page) h.laid (i + 1) (omega (arith, h.there))
 

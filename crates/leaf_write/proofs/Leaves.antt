@@ -6,7 +6,7 @@ use Prim.Native.Nat.{ℕ, zero, suc, ◌+◌, ◌-◌, ◌*◌, ◌≤◌, ◌<�
 use native.Mathlib.Omega.{arith}
 use native.Mathlib.Decide.{dec_lt}
 use lib.Dec.{ltb}
-use lib.ListN.{length, get_or, take, length-append, length-take}
+use lib.ListN.{length, get_or, take, length-append}
 use lib.Seq.{length-take-le, take_all}
 use borrow.Author.Tests.{lt-ltb, le-ltb}
 use Rattle.leaf_node.specs.Limits.{body_limit}
@@ -30,8 +30,8 @@ use Rattle.leaf_cut.specs.Records.{records_from}
 use Rattle.leaf_cut.specs.Steps.{Spread, CursorIn, Kept}
 use Rattle.leaf_cut.proofs.Walking.{insert_sizes, chunk_many, an_entry_has_a_record}
 use Rattle.leaf_cut.proofs.Parts.{what_is_kept_is_spread, the_records_from_an_entry_on, the_records_from_the_rest_on}
-use Rattle.leaf_write.specs.declared.Pushed.{Pushed}
-use Rattle.leaf_write.specs.Filling.{part_from, EntryThere, PartThere, Filling, LeafFits}
+use Rattle.leaf_write.specs.declared.Place.{Place}
+use Rattle.leaf_write.specs.Filling.{part_from, place_behind, EntryThere, PartThere, Filling, RoomAt, LeafFits}
 
 -- ---- records pushed in two goes
 
@@ -139,53 +139,43 @@ module _ (list : List Entry) (store page : List ℕ) (s : Span) (h : Kept list s
 
 -- ---- part after part
 
-module _ (list : List Entry) (store page : List ℕ) (s : Span) (n : ℕ) (d₀ : List ℕ) (first : ℕ) (start : Cursor) where
-  -- j of n records are in the page, the value of the next one will begin at b
-  pub record Filled (d : List ℕ) (at : Cursor) (j b : ℕ) : Type 0 where
-    pub upto : j ≤ n
-    pub there : j < n → CursorIn list page s at
-    pub more : n - j ≤ length (records_from s list store page at)
-    pub room : Filling (length d) j b (take (n - j) (records_from s list store page at))
-    pub whole : pushed d₀ 0 first (take n (records_from s list store page start)) ≡ pushed d j b (take (n - j) (records_from s list store page at))
+module _ (list : List Entry) (store page : List ℕ) (s : Span) (d₀ : List ℕ) (first : Place) (start : Cursor) where
+  -- a page whose records up to a place were pushed: it still takes those from a cursor on
+  pub record Filled (d : List ℕ) (at : Cursor) (p : Place) : Type 0 where
+    pub there : 0 < p.left → CursorIn list page s at
+    pub more : p.left ≤ length (records_from s list store page at)
+    pub room : RoomAt (length d) p (records_from s list store page at)
+    pub whole : pushed d₀ first.index first.at (take first.left (records_from s list store page start)) ≡ pushed d p.index p.at (take p.left (records_from s list store page at))
     pub same : length d ≡ length d₀
 
-  pub an_empty_page_is_filled : CursorIn list page s start → n ≤ length (records_from s list store page start)
-      → Filling (length d₀) 0 first (take n (records_from s list store page start)) → Filled d₀ start 0 first
-  an_empty_page_is_filled c m f =
-      let z : n - 0 ≡ n = omega arith in
-      record { upto = omega arith; there = λ l. c; more = omega arith; room = rw z f; whole = rw z; same = refl }
+  module _ (d : List ℕ) (at : Cursor) (p : Place) (w : Filled d at p) where
+    pub a_filled_page_has_all : p.left ≡ 0 → d ≡ pushed d₀ first.index first.at (take first.left (records_from s list store page start))
+    a_filled_page_has_all z = sym (w.whole ∙ ap (λ (k : ℕ). pushed d p.index p.at (take k (records_from s list store page at))) z ∙ pushed_none d p.index p.at)
 
-  module _ (d : List ℕ) (at : Cursor) (j b : ℕ) (w : Filled d at j b) where
-    pub a_filled_page_has_all : n ≤ j → d ≡ pushed d₀ 0 first (take n (records_from s list store page start))
-    a_filled_page_has_all l = let z : n - j ≡ 0 = omega arith in sym (w.whole ∙ ap (λ (k : ℕ). pushed d j b (take k (records_from s list store page at))) z ∙ pushed_none d j b)
-
-    module _ (h : Kept list store page s) (l : j < n) where
+    module _ (h : Kept list store page s) (l : 0 < p.left) where
       abbrev part : List Record
       part = part_from s list store page at
 
       abbrev rs : List Record
-      rs = take (n - j) part
+      rs = take p.left part
 
       abbrev rest : List Record
       rest = behind list store page s h at (w.there l)
 
       abbrev ss : List Record
-      ss = take (n - j - length rs) rest
+      ss = take (p.left - length rs) rest
 
-      two : take (n - j) (records_from s list store page at) ≡ rs ++ ss
-      two = ap (take (n - j)) (parted list store page s h at (w.there l)) ∙ take_append (n - j) part rest
+      two : take p.left (records_from s list store page at) ≡ rs ++ ss
+      two = ap (take p.left) (parted list store page s h at (w.there l)) ∙ take_append p.left part rest
 
-      fill : Filling (length d) j b (rs ++ ss)
+      fill : Filling (length d) p.index p.at (rs ++ ss)
       fill = rw two at w.room
 
       pub the_part_can_be_read : PartThere list store page s at
       the_part_can_be_read = a_cursor_has_its_part list store page s h at (w.there l) (omega (arith, w.more))
 
-      pub the_part_has_room : Filling (length d) j b (take (n - j) (part_from s list store page at))
-      the_part_has_room = first_goes_in d j b rs ss fill
-
-      rs_few : length rs ≤ n - j
-      rs_few = rw (length-take (n - j) part) (omega arith)
+      pub the_part_has_room : RoomAt (length d) p (part_from s list store page at)
+      the_part_has_room = first_goes_in d p.index p.at rs ss fill
 
       abbrev next : Cursor
       next = record { entry = at.entry + 1; skip = 0 }
@@ -201,47 +191,42 @@ module _ (list : List Entry) (store page : List ℕ) (s : Span) (n : ℕ) (d₀ 
       all_many : length (records_from s list store page at) ≡ length part + length rest
       all_many = ap length (parted list store page s h at (w.there l)) ∙ length-append part rest
 
-      rest_all : s.used ≤ at.entry → length rs ≡ n - j
-      rest_all e = length-take-le (n - j) part (omega (arith, w.more, all_many, ap length (in_the_rest e)))
+      rest_all : s.used ≤ at.entry → length rs ≡ p.left
+      rest_all e = length-take-le p.left part (omega (arith, w.more, all_many, ap length (in_the_rest e)))
 
-      rs_many : (length part ≤ n - j → length rs ≡ length part) × (n - j ≤ length part → length rs ≡ n - j)
-      rs_many = ((λ m. ap length (take_all (n - j) part m)), (λ m. length-take-le (n - j) part m))
+      rs_many : (length part ≤ p.left → length rs ≡ length part) × (p.left ≤ length part → length rs ≡ p.left)
+      rs_many = ((λ m. ap length (take_all p.left part m)), (λ m. length-take-le p.left part m))
 
-      ss_is : ss ≡ take (n - (j + length rs)) (records_from s list store page next)
+      ss_is : ss ≡ take (p.left - length rs) (records_from s list store page next)
       ss_is = elim (dec_lt at.entry s.used) [
-        | yes e ↦ let z : n - j - length rs ≡ n - (j + length rs) = omega arith in rw (in_an_entry e, z)
-        | no e ↦
-            let a : n - j - length rs ≡ 0 = omega (arith, rest_all (omega arith)) in
-            let z : n - (j + length rs) ≡ 0 = omega (arith, rest_all (omega arith)) in
-            rw (a, z)
+        | yes e ↦ rw (in_an_entry e)
+        | no e ↦ let z : p.left - length rs ≡ 0 = omega (arith, rest_all (omega arith)) in rw z
       ]
 
-      next_more : n - (j + length rs) ≤ length (records_from s list store page next)
+      next_more : p.left - length rs ≤ length (records_from s list store page next)
       next_more = elim (dec_lt at.entry s.used) [
-        | yes e ↦ elim (dec_lt (n - j) (length part)) [
+        | yes e ↦ elim (dec_lt p.left (length part)) [
           | yes m ↦ omega (arith, rs_many.1 (omega arith))
           | no m ↦ omega (arith, rs_many.0 (omega arith), w.more, all_many, ap length (in_an_entry e))
         ]
         | no e ↦ omega (arith, rest_all (omega arith))
       ]
 
-      next_there : j + length rs < n → CursorIn list page s next
+      next_there : 0 < p.left - length rs → CursorIn list page s next
       next_there m = elim (dec_lt at.entry s.used) [ yes e ↦ the_next_entry_is_there list store page s h at (w.there l) e | no e ↦ absurd (omega (arith, rest_all (omega arith))) ]
 
-      further : Filled (pushed d j b rs) next (j + length rs) (b + total rs)
+      further : Filled (pushed d p.index p.at rs) next (place_behind p rs)
       further = record {
-        upto = omega (arith, rs_few);
         there = next_there;
         more = next_more;
-        room = rw (← ss_is) (rest_goes_in d j b rs ss fill);
-        whole = w.whole ∙ ap (pushed d j b) two ∙ both_go_in d j b rs ss fill ∙ ap (pushed (pushed d j b rs) (j + length rs) (b + total rs)) ss_is;
-        same = same_long d j b rs ss fill ∙ w.same;
+        room = rw (← ss_is) (rest_goes_in d p.index p.at rs ss fill);
+        whole = w.whole ∙ ap (pushed d p.index p.at) two ∙ both_go_in d p.index p.at rs ss fill ∙ ap (pushed (pushed d p.index p.at rs) (p.index + length rs) (p.at + total rs)) ss_is;
+        same = same_long d p.index p.at rs ss fill ∙ w.same;
       }
 
-      module _ (p : Pushed) (m : p.count ≡ length (take (n - j) (part_from s list store page at))) where
-        pub a_part_is_pushed : (x : List ℕ) → x ≡ pushed d j b (take (n - j) (part_from s list store page at)) → p.at ≡ b + total (take (n - j) (part_from s list store page at))
-            → Filled x (record { entry = at.entry + 1; skip = 0 }) (j + p.count) p.at
-        a_part_is_pushed x q e = rw (q, m, e) further
+      pub a_part_is_pushed : (x : List ℕ) (r : Place) → x ≡ pushed d p.index p.at (take p.left (part_from s list store page at)) → r ≡ place_behind p (take p.left (part_from s list store page at))
+          → Filled x (record { entry = at.entry + 1; skip = 0 }) r
+      a_part_is_pushed x r q e = rw (q, e) further
 
 -- ---- the page
 

@@ -4,14 +4,13 @@
 
 ghost use Rattle.std.specs.Prelude.{◌≡◌, [], ◌∷◌, ◌+◌, ◌≤◌, ◌<◌, length, take};
 ghost use Rattle.bit_ops.specs.Separate.{separate_leaves};
-ghost use Rattle.leaf_node.specs.Record.{total};
 ghost use Rattle.leaf_node.specs.Page.{pointer, key_at, records_between};
-ghost use Rattle.leaf_node.specs.Build.{put, pushed};
+ghost use Rattle.leaf_node.specs.Build.{put};
 ghost use Rattle.leaf_node.specs.Ticket.{packed_with};
 ghost use Rattle.leaf_model.specs.Work.{zero_key};
 ghost use Rattle.leaf_work.specs.Tests.{lent_key};
 ghost use Rattle.leaf_cut.specs.Records.{entry_records};
-ghost use Rattle.leaf_write.specs.Filling.{insert_record, RangeIn, InsertIn, EntryThere, Filling};
+ghost use Rattle.leaf_write.specs.Filling.{insert_record, RangeIn, InsertIn, EntryThere, RoomAt, PushedAt};
 
 use bit_ops::separate;
 use leaf_builder::{push_cell, push_chunk};
@@ -20,59 +19,58 @@ use leaf_work::Entry;
 
 // ---- the page of a leaf
 
-// How many records were pushed, and where the value of the next one begins.
+// Where the next record of a page goes: its index, and the byte at which its value begins; and how many records the page still takes.
 #[derive(Clone, Copy)]
-pub struct Pushed {
-    pub count: usize,
+pub struct Place {
+    pub index: usize,
     pub at: usize,
+    pub left: usize,
 }
 
-// Pushes base records `from` up to `to`, no more than `left`, as records from j on, their values from byte `at` on.
-pub fn push_range(
-    page: &[u8],
-    from: usize,
-    to: usize,
-    left: usize,
-    d: &mut [u8],
-    j: usize,
-    at: usize,
-) -> Pushed
-    requires { (RangeIn page.now from to) × (Filling (length d.old) j at (take left (records_between page.now from to))) }
-    ensures { (d.new ≡ pushed d.old j at (take left (records_between page.now from to))) × (result.count ≡ length (take left (records_between page.now from to))) × (result.at ≡ at + total (take left (records_between page.now from to))) }
+// Pushes base records `from` up to `to`, as many as the page still takes. Answers the place behind them.
+pub fn push_range(page: &[u8], from: usize, to: usize, d: &mut [u8], place: Place) -> Place
+    requires { (RangeIn page.now from to) × (RoomAt (length d.old) place (records_between page.now from to)) }
+    ensures { PushedAt d.old place (records_between page.now from to) d.new result }
 {
-    let count = left.min(to - from);
-    let next = push_chunk(page, from, from + count, d, j, at);
-    Pushed { count, at: next }
+    let count = place.left.min(to - from);
+    let at = push_chunk(page, from, from + count, d, place.index, place.at);
+    Place {
+        index: place.index + count,
+        at,
+        left: place.left - count,
+    }
 }
 
-// Pushes an insert as record j, its value at byte `at`. Answers where the value ends.
-fn push_insert(entry: &Entry, store: &[u8], d: &mut [u8], j: usize, at: usize) -> usize
-    requires { (InsertIn entry.now (length store.now)) × (Filling (length d.old) j at (insert_record store.now entry.now ∷ [])) }
-    ensures { (d.new ≡ pushed d.old j at (insert_record store.now entry.now ∷ [])) × (result ≡ at + total (insert_record store.now entry.now ∷ [])) }
+// Pushes an insert.
+fn push_insert(entry: &Entry, store: &[u8], d: &mut [u8], place: Place) -> Place
+    requires { (InsertIn entry.now (length store.now)) × (0 < place.left) × (RoomAt (length d.old) place (insert_record store.now entry.now ∷ [])) }
+    ensures { PushedAt d.old place (insert_record store.now entry.now ∷ []) d.new result }
 {
     let value = &store[entry.from..entry.to];
-    push_cell(d, j, at, &entry.key, value, entry.flag != 0)
+    let end = push_cell(d, place.index, place.at, &entry.key, value, entry.flag != 0);
+    Place {
+        index: place.index + 1,
+        at: end,
+        left: place.left - 1,
+    }
 }
 
-// Pushes an entry's records behind the first `skip`, no more than `left`.
+// Pushes an entry's records behind the first `skip`, as many as the page still takes.
 pub fn push_entry(
     entry: &Entry,
     store: &[u8],
     page: &[u8],
     skip: usize,
-    left: usize,
     d: &mut [u8],
-    j: usize,
-    at: usize,
-) -> Pushed
-    requires { (EntryThere store.now page.now entry.now skip) × (0 < left) × (Filling (length d.old) j at (take left (entry_records store.now page.now entry.now skip))) }
-    ensures { (d.new ≡ pushed d.old j at (take left (entry_records store.now page.now entry.now skip))) × (result.count ≡ length (take left (entry_records store.now page.now entry.now skip))) × (result.at ≡ at + total (take left (entry_records store.now page.now entry.now skip))) }
+    place: Place,
+) -> Place
+    requires { (EntryThere store.now page.now entry.now skip) × (0 < place.left) × (RoomAt (length d.old) place (entry_records store.now page.now entry.now skip)) }
+    ensures { PushedAt d.old place (entry_records store.now page.now entry.now skip) d.new result }
 {
-    if !entry.is_insert() {
-        return push_range(page, entry.from + skip, entry.to, left, d, j, at);
+    if entry.is_insert() {
+        return push_insert(entry, store, d, place);
     }
-    let next = push_insert(entry, store, d, j, at);
-    Pushed { count: 1, at: next }
+    push_range(page, entry.from + skip, entry.to, d, place)
 }
 
 // ---- keys

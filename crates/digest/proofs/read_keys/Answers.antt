@@ -2,7 +2,7 @@
 -- Assumes nothing.
 use Rattle.std.proofs.Common.{rules}
 use Rattle.leaf_node.specs.Fits.{nil}
-use Rattle.leaf_entries.proofs.Finding.{finding_one_more, finding_all}
+use Rattle.leaf_entries.proofs.Finding.{finding_one_more}
 use Rattle.digest.proofs.read_keys.Goals as goal
 
 pub loop-entry-init : goal.loop-entry-init
@@ -10,6 +10,3 @@ loop-entry-init c = nil
 
 pub loop-entry-preserved : goal.loop-entry-preserved
 loop-entry-preserved c = search (finding_one_more, rules)
-
-pub returns : goal.returns
-returns c = search (finding_all, rules)

@@ -2,7 +2,7 @@
 -- Assumes nothing.
 use Rattle.std.proofs.Common.{sym, ◌∙◌}
 use borrow.Author.Tests.{eqb-true, eqb-false}
-use Rattle.digest_keep.proofs.Records.{the_insert_can_be_lifted, the_insert_is_the_last, a_chunk_has_a_last, the_chunks_last_can_be_lifted, the_chunks_last_is_the_last}
+use Rattle.digest_keep.proofs.Records.{the_insert_can_be_lifted, the_insert_is_the_last, the_chunks_last_can_be_lifted, the_chunks_last_is_the_last}
 use Rattle.digest_keep.proofs.lift_last.Goals as goal
 
 pub lift_insert-requires : goal.lift_insert-requires
@@ -10,12 +10,6 @@ lift_insert-requires c = the_insert_can_be_lifted _ _ _ _ _ c.requires (eqb-true
 
 pub returns-then-is_insert : goal.returns-then-is_insert
 returns-then-is_insert c = the_insert_is_the_last _ _ _ _ _ c.requires (eqb-true _ 1 (sym c.is_insert.ensures ∙ c.if-is_insert.true)) _ _ c.lift_insert.ensures
-
-pub overflow_sub-part : goal.overflow_sub-part
-overflow_sub-part c = (a_chunk_has_a_last _ _ _ _ _ c.requires (eqb-false _ 1 (sym c.is_insert.ensures ∙ c.if-is_insert.false))).0
-
-pub overflow_sub-part-2 : goal.overflow_sub-part-2
-overflow_sub-part-2 c = (a_chunk_has_a_last _ _ _ _ _ c.requires (eqb-false _ 1 (sym c.is_insert.ensures ∙ c.if-is_insert.false))).1
 
 pub lift_base-requires : goal.lift_base-requires
 lift_base-requires c = the_chunks_last_can_be_lifted _ _ _ _ _ c.requires (eqb-false _ 1 (sym c.is_insert.ensures ∙ c.if-is_insert.false)) _ c.args.node.counted.counted

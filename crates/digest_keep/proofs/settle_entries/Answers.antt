@@ -2,7 +2,7 @@
 -- Assumes nothing.
 use Rattle.std.proofs.Common.{◌∙◌}
 use Rattle.leaf_work.specs.Lent.{blank}
-use Rattle.leaf_move.proofs.Forward.{what_is_lowered_and_cleared_is_settled}
+use Rattle.leaf_move.proofs.Lowering.{what_is_lowered_and_cleared_is_settled}
 use Rattle.leaf_move.proofs.Within.{copied_down_is_lowered}
 use Rattle.digest_keep.proofs.settle_entries.Goals as goal
 

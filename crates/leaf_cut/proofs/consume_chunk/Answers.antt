@@ -4,5 +4,5 @@ use Rattle.std.proofs.Common.{rules}
 use Rattle.leaf_cut.proofs.Ending.{a_chunk_below_the_target_is_taken}
 use Rattle.leaf_cut.proofs.consume_chunk.Goals as goal
 
-pub returns-then-count-bytes : goal.returns-then-count-bytes
-returns-then-count-bytes c = search (a_chunk_below_the_target_is_taken, rules)
+pub returns-then-body-aim : goal.returns-then-body-aim
+returns-then-body-aim c = search (a_chunk_below_the_target_is_taken, rules)

@@ -4,11 +4,11 @@ use Rattle.std.proofs.Common.{rules}
 use Rattle.leaf_cut.proofs.Ending.{the_chunk_is_taken, the_leaf_ends_before, the_leaf_ends_behind, the_leaf_ends_later}
 use Rattle.leaf_cut.proofs.try_split_keep_chunk.Goals as goal
 
-pub returns-then-aim-after : goal.returns-then-aim-after
-returns-then-aim-after c = search (the_leaf_ends_before, rules)
+pub returns-then-aim-body : goal.returns-then-aim-body
+returns-then-aim-body c = search (the_leaf_ends_before, rules)
 
-pub returns-then-aim-after-2 : goal.returns-then-aim-after-2
-returns-then-aim-after-2 c = search (the_leaf_ends_behind, rules)
+pub returns-then-aim-body-2 : goal.returns-then-aim-body-2
+returns-then-aim-body-2 c = search (the_leaf_ends_behind, rules)
 
 pub loop-i-preserved : goal.loop-i-preserved
 loop-i-preserved c = (search rules, search (the_leaf_ends_later, rules))

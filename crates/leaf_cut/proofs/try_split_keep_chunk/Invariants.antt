@@ -7,4 +7,4 @@ use Rattle.leaf_cut.specs.Sizes.{cut_sizes}
 use Rattle.leaf_cut.proofs.try_split_keep_chunk.Given as goal
 
 abbrev pub invariant-loop-i : goal.invariant-loop-i
-invariant-loop-i l = (34 * l.count + l.bytes < l.aim.target) × (cut_sizes l.aim.limit l.aim.target l.initial.count l.initial.bytes (run (l.to - l.from) l.from (length_at l.node.page.now)) ≡ cut_sizes l.aim.limit l.aim.target l.count l.bytes (run (l.to - l.i) l.i (length_at l.node.page.now)))
+invariant-loop-i l = (34 * l.so_far.count + l.so_far.bytes < l.aim.target) × (cut_sizes l.aim.limit l.aim.target l.initial.so_far.count l.initial.so_far.bytes (run (l.to - l.from) l.from (length_at l.node.page.now)) ≡ cut_sizes l.aim.limit l.aim.target l.so_far.count l.so_far.bytes (run (l.to - l.i) l.i (length_at l.node.page.now)))
