@@ -9,7 +9,11 @@ use native.Mathlib.Nat.{le_of_eq, mul-le-mul_right}
 use lib.Dec.{eqb}
 use lib.ListN.{length, take, drop}
 use lib.Seq.{take-length}
-use borrow.Author.Tests.{eqb-true, ne_eqb, not-true}
+use borrow.Author.Tests.{eqb-true, not-true}
+use Rattle.std.specs.Prelude as std
+use Rattle.std.specs.Prelude.{Result, Ok, Err}
+use Rattle.refusal.specs.declared.Refusal.{Refusal}
+use Rattle.refusal.specs.Numbers.{number_of}
 use Rattle.leaf_node.specs.Limits.{PageSize, pages_asked}
 use Rattle.leaf_node.specs.Record.{Record, body}
 use Rattle.leaf_node.specs.Page.{run, records_between, records}
@@ -25,7 +29,7 @@ use Rattle.leaf_work.proofs.Laid.{an_ignored_page_has_no_records}
 use Rattle.leaf_open.proofs.Openings.{a_page_has_4096_bytes}
 use Rattle.row_turns.specs.Row.{RowLeaf, is_from_zero}
 use Rattle.row_turns.specs.Changes.{Edit, EditsRight, changed_all, inserted_body, row_pages_asked}
-use Rattle.row_turns.specs.Turns.{Turned, load_verdict, digested_to, loaded, turns, nothing_yet, row_turned}
+use Rattle.row_turns.specs.Turns.{Turned, load_verdict, digested_to, loaded, nothing_yet, row_turned}
 use Rattle.row_turns.proofs.Turning.{loaded_is}
 use Rattle.row_turns.proofs.Asked.{a_full_page_of_4096_bytes_is_two_least_leaves, changes_add_what_they_insert, asked_within, count_leaves}
 use Rattle.row_changes.specs.Packed.{edits_of}
@@ -38,7 +42,7 @@ use Rattle.row_leaf.specs.declared.LeafAt.{LeafAt}
 use Rattle.row_leaf.specs.declared.RowAt.{RowAt}
 use Rattle.row_leaf.specs.Leaf.{leaf_at}
 use Rattle.row_leaf.specs.Load.{LeavesGiven, changes_in, edits_in, pending_in, LoadThere, LeafLoaded}
-use Rattle.row_leaves.specs.Turns.{nothing_at, RowThere, RowWritten, TurnedTo, RowTurned}
+use Rattle.row_leaves.specs.Turns.{nothing_at, RowThere, RowWritten}
 use Rattle.row_leaves.proofs.Stands.{Written, a_load_is_written, a_row_is_written, above_zeros}
 use Rattle.row_apply.specs.Apply.{is_bare, RowTaken}
 
@@ -70,20 +74,17 @@ module _ (list : List Entry) (store pages : List ℕ) (separators changes : List
   passed : Passed 4096 n m pages separators changes (length values) (length area) (length tickets)
   passed = a_row_that_passes 4096 n m pages separators changes (length values) (length area) (length tickets) q h.passed
 
-  pub the_row_is_short : length separators ≤ 16
-  the_row_is_short = passed.few
-
   -- ---- a row without leaves
 
-  module _ (begun : RowAt) (eb : begun ≡ nothing_at) (leaf : LeafAt) (el : leaf ≡ leaf_at separators 0) (b : Bool) (ebare : b ≡ is_bare (length separators) (length changes)) (bare : b ≡ true) where
+  module _ (begun : RowAt) (eb : begun ≡ nothing_at) (leaf : LeafAt) (el : leaf ≡ leaf_at separators 0) (bare : is_bare (length separators) (length changes) ≡ true) where
     no_leaves : length separators ≡ 0
-    no_leaves = eqb-true (length separators) 0 (and_left (eqb (length separators) 0) (not (eqb (length changes) 0)) (sym ebare ∙ bare))
+    no_leaves = eqb-true (length separators) 0 (and_left (eqb (length separators) 0) (not (eqb (length changes) 0)) bare)
 
     some_changes : eqb (length changes) 0 ≡ false
-    some_changes = not-true (eqb (length changes) 0) (and_right (eqb (length separators) 0) (not (eqb (length changes) 0)) (sym ebare ∙ bare))
+    some_changes = not-true (eqb (length changes) 0) (and_right (eqb (length separators) 0) (not (eqb (length changes) 0)) bare)
 
     abbrev empty : LeafAt
-    empty = record { based = false; from = 0; to = 0; cut = false; separator = zero_key; cutoff = zero_key }
+    empty = record { page = std.None; separator = zero_key; cutoff = std.None }
 
     leaf_is : leaf ≡ empty
     leaf_is = el ∙ ap (λ (ss : List (List ℕ)). leaf_at ss 0) (none_there separators no_leaves)
@@ -113,12 +114,11 @@ module _ (list : List Entry) (store pages : List ℕ) (separators changes : List
     there : LoadThere nothing_at empty list store pages changes (length changes) values area tickets
     there = record {
       leaf_right = record {
-        from_to = omega arith;
-        page_there = omega arith;
+        page_there = record { inside = tt };
         separator_long = refl;
         cutoff_long = refl;
         base = λ e. clash e refl;
-        bare = λ e. (refl, refl, refl, refl);
+        bare = λ e. (refl, refl, refl);
       };
       room = passed.room;
       changes_there = omega arith;
@@ -128,9 +128,7 @@ module _ (list : List Entry) (store pages : List ℕ) (separators changes : List
       right = rw edits_are right;
       above = rw edits_are (above_zeros right.keyed);
       below = rw edits_are (all_map (λ x k. refl) right.keyed);
-      waits = λ e. clash e refl;
-      some_wait = λ e. clash e refl;
-      clear = λ e. (h.list_clear, h.store_clear);
+      rests = (refl, h.list_clear, h.store_clear);
       area_room = subst (λ (rs : List Record). (0 + pages_asked 4096 (body rs)) * 4096 ≤ length area) (sym pending_is) (omega (arith, mul-le-mul_right 4096 asked, passed.area_room));
       ticket_room = subst (λ (rs : List Record). (0 + pages_asked 4096 (body rs)) * 65 ≤ length tickets) (sym pending_is) (omega (arith, mul-le-mul_right 65 asked, passed.ticket_room));
     }
@@ -156,92 +154,84 @@ module _ (list : List Entry) (store pages : List ℕ) (separators changes : List
     abbrev verdict : ℕ
     verdict = load_verdict n m [] [] edits
 
-    number_of : opened.number ≡ verdict
-    number_of = go (eqb verdict 0) refl
+    verdict_is : opened.number ≡ verdict
+    verdict_is = go (eqb verdict 0) refl
       where
         go : (y : Bool) → eqb verdict 0 ≡ y → opened.number ≡ verdict
         go true e = rw (loaded, e) (sym (eqb-true verdict 0 e))
         go false e = rw (loaded, e)
 
-    module _ (r : RowAt) (list' : List Entry) (store' area' tickets' : List ℕ) (l : LeafLoaded begun leaf list store pages changes (length changes) values area tickets r list' store' area' tickets') where
+    module _ (list' : List Entry) (store' area' tickets' : List ℕ) (r : Result RowAt Refusal) (l : LeafLoaded begun leaf list store pages changes (length changes) values area tickets r list' store' area' tickets') where
       l₀ : LeafLoaded nothing_at empty list store pages changes (length changes) values area tickets r list' store' area' tickets'
       l₀ = rw (eb, leaf_is) at l
 
-      number_is : r.number ≡ t.number
+      number_is : number_of r ≡ t.number
       number_is =
           l₀.number_is
           ∙ ap (load_verdict n m [] (records [])) edits_are
           ∙ ap (λ (rs : List Record). load_verdict n m [] rs edits) no_records
-          ∙ sym number_of
+          ∙ sym verdict_is
           ∙ ap (λ (u : Turned). u.number) (sym turned_is)
 
-      module _ (z : t.number ≡ 0) where
-        abbrev Q : List Record
-        Q = changed_all edits []
+    module _ (list' : List Entry) (store' area' tickets' : List ℕ) (r : RowAt) (l : LeafLoaded begun leaf list store pages changes (length changes) values area tickets (Ok r) list' store' area' tickets') where
+      z : t.number ≡ 0
+      z = sym (number_is list' store' area' tickets' (Ok r) l)
 
-        abbrev digested_here : Turned
-        digested_here = digested_to 4096 n m [] zero_key none Q
+      abbrev Q : List Record
+      Q = changed_all edits []
 
-        done_is : t ≡ digested_here
-        done_is = turned_is ∙ loaded_is 4096 n m q (nothing_yet 4096 n m) zero_key none [] edits (ap (λ (u : Turned). u.number) (sym turned_is) ∙ z)
+      abbrev digested_here : Turned
+      digested_here = digested_to 4096 n m [] zero_key none Q
 
-        good : All (λ x. Good 4096 x.page) digested_here.row
-        good = subst (λ (u : Turned). All (λ x. Good 4096 x.page) u.row) done_is (all_good t.row (new_pages_are_good 4096 q n m pages separators changes values (length area) (length tickets) h.packed h.passed z))
+      done_is : t ≡ digested_here
+      done_is = turned_is ∙ loaded_is 4096 n m q (nothing_yet 4096 n m) zero_key none [] edits (ap (λ (u : Turned). u.number) (sym turned_is) ∙ z)
 
-        fits : length (is_from_zero t.row) * 65 ≤ length tickets
-        fits = (the_new_row_fits_the_area 4096 q n m pages separators changes values (length area) (length tickets) h.packed h.passed z a_full_page_of_4096_bytes_is_two_least_leaves).1
+      good : All (λ x. Good 4096 x.page) digested_here.row
+      good = subst (λ (u : Turned). All (λ x. Good 4096 x.page) u.row) done_is (all_good t.row (new_pages_are_good 4096 q n m pages separators changes values (length area) (length tickets) h.packed h.passed z))
 
-        same_length : (xs : List RowLeaf) → length (is_from_zero xs) ≡ length xs
-        same_length [] = refl
-        same_length (x ∷ xs) = refl
+      fits : length (is_from_zero t.row) * 65 ≤ length tickets
+      fits = (the_new_row_fits_the_area 4096 q n m pages separators changes values (length area) (length tickets) h.packed h.passed z a_full_page_of_4096_bytes_is_two_least_leaves).1
 
-        room : (0 + length (plan 4096 none Q).leaves) * 65 ≤ length tickets
-        room =
-            let p = plan 4096 none Q in
-            let c : length digested_here.row ≡ length p.leaves = count_leaves 4096 n m q a_full_page_of_4096_bytes_is_two_least_leaves zero_key none (nonempty p.left) p.leaves p.left in
-            let d : length (is_from_zero t.row) ≡ length p.leaves = same_length t.row ∙ ap (λ (u : Turned). length u.row) done_is ∙ c in
-            omega (arith, mul-le-mul_right 65 (le_of_eq (sym d)), fits)
+      same_length : (xs : List RowLeaf) → length (is_from_zero xs) ≡ length xs
+      same_length [] = refl
+      same_length (x ∷ xs) = refl
 
-        pending_here : pending_in nothing_at empty list store pages (edits_in nothing_at changes (length changes) values) ≡ Q
-        pending_here = pending_is ∙ ap (λ (rs : List Record). changed_all edits ([] ++ rs)) no_records
+      room : (0 + length (plan 4096 none Q).leaves) * 65 ≤ length tickets
+      room =
+          let p = plan 4096 none Q in
+          let c : length digested_here.row ≡ length p.leaves = count_leaves 4096 n m q a_full_page_of_4096_bytes_is_two_least_leaves zero_key none (nonempty p.left) p.leaves p.left in
+          let d : length (is_from_zero t.row) ≡ length p.leaves = same_length t.row ∙ ap (λ (u : Turned). length u.row) done_is ∙ c in
+          omega (arith, mul-le-mul_right 65 (le_of_eq (sym d)), fits)
 
-        given : LeavesGiven nothing_at zero_key none Q (length changes) (0 + values_length (changes_in nothing_at changes (length changes))) area tickets r list' store' area' tickets'
-        given = subst (λ (rs : List Record). LeavesGiven nothing_at zero_key none rs (length changes) (0 + values_length (changes_in nothing_at changes (length changes))) area tickets r list' store' area' tickets') pending_here
-            (l₀.given (number_is ∙ z))
+      pending_here : pending_in nothing_at empty list store pages (edits_in nothing_at changes (length changes) values) ≡ Q
+      pending_here = pending_is ∙ ap (λ (rs : List Record). changed_all edits ([] ++ rs)) no_records
 
-        before : Written area tickets (nothing_yet 4096 n m) none nothing_at list store area tickets
-        before = record {
-          linked_to = no_leaf_is_linked tickets;
-          area_is = refl;
-          good = nil;
-          waiting_is = refl;
-          rests = record { waits = λ w. clash w refl; clear = λ k. (h.list_clear, h.store_clear) };
-        }
+      given : LeavesGiven nothing_at zero_key none Q (length changes) (0 + values_length (changes_in nothing_at changes (length changes))) area tickets r list' store' area' tickets'
+      given = subst (λ (rs : List Record). LeavesGiven nothing_at zero_key none rs (length changes) (0 + values_length (changes_in nothing_at changes (length changes))) area tickets r list' store' area' tickets') pending_here
+          (l₀ list' store' area' tickets' (Ok r) l).given
 
-        after : Written area tickets digested_here none r list' store' area' tickets'
-        after = a_load_is_written area tickets n m (nothing_yet 4096 n m) nothing_at list store area tickets none none before zero_key none Q (length changes) (0 + values_length (changes_in nothing_at changes (length changes))) refl good room r list' store' area' tickets' given
-
-        nothing_left : digested_here.kept ≡ []
-        nothing_left = go (plan 4096 none Q).left refl
-          where
-            go : (left : List Record) → (plan 4096 none Q).left ≡ left → digested_here.kept ≡ []
-            go [] e = e
-            go (x ∷ xs) e = let k = kept_records_wait_for_a_merge 4096 none Q (ap nonempty e) in none_is_not_some k.1
-
-      pub an_empty_row_is_taken : RowTaken list store pages separators changes values area tickets r list' store' area' tickets'
-      an_empty_row_is_taken = record {
-        number_is = number_is;
-        written = λ z. subst (λ (u : Turned). RowWritten (is_from_zero u.row) area tickets r list' store' area' tickets') (sym (done_is z)) (a_row_is_written area tickets (digested_here z) none r list' store' area' tickets' (after z) (nothing_left z));
+      before : Written area tickets (nothing_yet 4096 n m) none nothing_at list store area tickets
+      before = record {
+        linked_to = no_leaf_is_linked tickets;
+        area_is = refl;
+        good = nil;
+        rests = (refl, h.list_clear, h.store_clear);
       }
 
-  -- ---- any other row
+      after : Written area tickets digested_here none r list' store' area' tickets'
+      after = a_load_is_written area tickets n m (nothing_yet 4096 n m) nothing_at list store area tickets none none before zero_key none Q (length changes) (0 + values_length (changes_in nothing_at changes (length changes))) refl good room r list' store' area' tickets' given
 
-  pub another_row_is_taken : (b : Bool) → b ≡ is_bare (length separators) (length changes) → b ≡ false → (r : RowAt) (list' : List Entry) (store' area' tickets' : List ℕ)
-      → RowTurned list store pages separators changes values area tickets r list' store' area' tickets' → RowTaken list store pages separators changes values area tickets r list' store' area' tickets'
-  another_row_is_taken b e f r list' store' area' tickets' k =
-      subst (λ (u : Turned). TurnedTo list store pages separators changes values area tickets u r list' store' area' tickets') (same separators changes (sym e ∙ f)) k
-    where
-      same : (ss cs : List (List ℕ)) → is_bare (length ss) (length cs) ≡ false → turns 4096 n m (nothing_yet 4096 n m) (row_of 4096 pages ss) (edits_of cs values) ≡ row_turned 4096 n m (row_of 4096 pages ss) (edits_of cs values)
-      same [] [] y = refl
-      same [] (c ∷ cs) y = clash (ap not (ne_eqb (length (c ∷ cs)) 0 (λ (z : length (c ∷ cs) ≡ 0). absurd (omega (arith, z))))) y
-      same (s ∷ ss) cs y = refl
+      nothing_left : digested_here.kept ≡ []
+      nothing_left = go (plan 4096 none Q).left refl
+        where
+          go : (left : List Record) → (plan 4096 none Q).left ≡ left → digested_here.kept ≡ []
+          go [] e = e
+          go (x ∷ xs) e = let k = kept_records_wait_for_a_merge 4096 none Q (ap nonempty e) in none_is_not_some k.1
+
+      taken : RowWritten (is_from_zero t.row) area tickets r list' store' area' tickets'
+      taken = subst (λ (u : Turned). RowWritten (is_from_zero u.row) area tickets r list' store' area' tickets') (sym done_is) (a_row_is_written area tickets digested_here none r list' store' area' tickets' after nothing_left)
+
+    pub an_empty_row_is_taken : (r : Result RowAt Refusal) (list' : List Entry) (store' area' tickets' : List ℕ) → LeafLoaded begun leaf list store pages changes (length changes) values area tickets r list' store' area' tickets'
+        → RowTaken list store pages separators changes values area tickets r list' store' area' tickets'
+    an_empty_row_is_taken (Ok r) list' store' area' tickets' l = record { number_is = number_is list' store' area' tickets' (Ok r) l; written = taken list' store' area' tickets' r l }
+    an_empty_row_is_taken (Err f) list' store' area' tickets' l = record { number_is = number_is list' store' area' tickets' (Err f) l; written = tt }

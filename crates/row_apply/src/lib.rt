@@ -2,21 +2,20 @@
 // Ported from nomt/src/beatree/ops/update/leaf_stage.rs of thrumdev/nomt: `run`, for one worker.
 #![tactic(auto)]
 
-ghost use Rattle.std.specs.Prelude.{◌≡◌, length};
-ghost use Rattle.bit_ops.specs.Steps.{zeros};
-ghost use Rattle.leaf_node.specs.Fits.{All};
-ghost use Rattle.row_leaves.specs.Turns.{RowThere};
-ghost use Rattle.row_apply.specs.Apply.{is_bare, reply_by, RowTaken, RowClosed, RowReady, RowSays};
+ghost use Rattle.std.specs.Prelude.{◌≡◌};
+ghost use Rattle.row_leaves.specs.Turns.{RowAsked};
+ghost use Rattle.row_apply.specs.Apply.{is_bare, row_reply, TakenTo, RowClosed, RowLent, LentSays, RowSays};
 
-use leaf_builder::clear_between;
-use leaf_entries::drain;
-use leaf_node::PAGE_SIZE;
-use leaf_work::Entry;
-use row_check::row_verdict;
-use row_leaf::{RowAt, leaf_at, load_leaf};
+use leaf_entries::blank_entry;
+use leaf_node::PAGE;
+use leaf_work::{Entry, Room};
+use refusal::Refusal;
+use row_changes::LeafChange;
+use row_check::{Lengths, row_verdict};
+use row_leaf::{LentRow, RowAt, Turn, leaf_at, load_leaf};
 use row_leaves::{all_turns, begin_row};
 
-// The row call's answer: 0 or the refusal, and the pages of the new row.
+// The row call's answer for C: 0 or the refusal, and the pages of the new row.
 #[repr(C)]
 #[derive(Clone, Copy)]
 pub struct LeafRow {
@@ -24,14 +23,18 @@ pub struct LeafRow {
     pub pages: usize,
 }
 
-// ---- what is lent
+impl From<Result<usize, Refusal>> for LeafRow {
+    ghost from_gives = { λ reply out. out ≡ row_reply reply };
 
-// All bytes are zeros.
-fn clear(bytes: &mut [u8])
-    ensures { bytes.new ≡ zeros (length bytes.old) }
-{
-    let all = bytes.len();
-    clear_between(bytes, 0, all);
+    fn from(reply: Result<usize, Refusal>) -> LeafRow {
+        match reply {
+            Ok(pages) => LeafRow { refusal: 0, pages },
+            Err(refusal) => LeafRow {
+                refusal: u8::from(refusal),
+                pages: 0,
+            },
+        }
+    }
 }
 
 // ---- the turns
@@ -47,141 +50,91 @@ fn is_bare(leaves: usize, changes: usize) -> bool
 fn take_turns(
     list: &mut [Entry],
     store: &mut [u8],
-    pages: &[u8],
-    separators: &[[u8; 32]],
-    changes: &[[u8; 40]],
-    values: &[u8],
+    lent: LentRow,
     area: &mut [u8],
     tickets: &mut [u8],
-) -> RowAt
-    requires { RowThere list.old store.old pages.now separators.now changes.now values.now area.old tickets.old }
-    ensures { RowTaken list.old store.old pages.now separators.now changes.now values.now area.old tickets.old result list.new store.new area.new tickets.new }
+) -> Result<RowAt, Refusal>
+    requires { RowAsked list.old store.old lent area.old tickets.old }
+    ensures { TakenTo list.old store.old lent.entry area.old tickets.old result list.new store.new area.new tickets.new }
 {
-    let begun = begin_row();
-    let leaf = leaf_at(separators, 0);
-    let bare = is_bare(separators.len(), changes.len());
-    if bare {
-        let at = load_leaf(
-            begun,
-            leaf,
-            list,
-            store,
-            pages,
-            changes,
-            changes.len(),
-            values,
-            area,
-            tickets,
-        );
-        at
-    } else {
-        let at = all_turns(
-            list, store, pages, separators, changes, values, area, tickets,
-        );
-        at
+    if !is_bare(lent.separators.len(), lent.changes.len()) {
+        return all_turns(list, store, lent, area, tickets);
     }
+    let turn = Turn {
+        at: begin_row(),
+        leaf: leaf_at(lent.separators, 0),
+        to: lent.changes.len(),
+    };
+    load_leaf(turn, list, store, lent, area, tickets)
 }
 
-// ---- the reply
-
-fn reply_of(at: RowAt) -> LeafRow
-    ensures { result ≡ reply_by at.number at.leaves }
-{
-    if at.number == 0 {
-        return LeafRow {
-            refusal: 0,
-            pages: at.leaves,
-        };
-    }
-    LeafRow {
-        refusal: at.number,
-        pages: 0,
-    }
-}
-
-fn refused_row(number: u8) -> LeafRow
-    ensures { result ≡ record { refusal = number; pages = 0 } }
-{
-    LeafRow {
-        refusal: number,
-        pages: 0,
-    }
-}
-
-// A refusal in the middle fills all that was lent with zeros.
+// The pages of the new row; a refusal in the middle fills all that was lent with zeros.
 fn close_row(
-    at: RowAt,
+    turned: Result<RowAt, Refusal>,
     list: &mut [Entry],
     store: &mut [u8],
     area: &mut [u8],
     tickets: &mut [u8],
-) -> LeafRow
-    ensures { RowClosed at list.old store.old area.old tickets.old result list.new store.new area.new tickets.new }
+) -> Result<usize, Refusal>
+    ensures { RowClosed turned list.old store.old area.old tickets.old result list.new store.new area.new tickets.new }
 {
-    if 0 < at.number {
-        drain(list, 0);
-        clear(store);
-        clear(area);
-        clear(tickets);
-        let reply = reply_of(at);
-        reply
-    } else {
-        let reply = reply_of(at);
-        reply
+    match turned {
+        Ok(at) => Ok(at.leaves),
+        Err(refusal) => {
+            list.fill(blank_entry());
+            store.fill(0);
+            area.fill(0);
+            tickets.fill(0);
+            Err(refusal)
+        }
     }
 }
 
 // ---- the call
 
-// A row that earns no refusal before its turns.
-fn accepted_row(
+// The pages of the new row, or what refuses it.
+fn new_row(
     list: &mut [Entry],
     store: &mut [u8],
-    pages: &[u8],
-    separators: &[[u8; 32]],
-    changes: &[[u8; 40]],
-    values: &[u8],
+    lent: LentRow,
     area: &mut [u8],
     tickets: &mut [u8],
-) -> LeafRow
-    requires { RowReady list.old store.old pages.now separators.now changes.now values.now area.old tickets.old }
-    ensures { RowSays list.old store.old pages.now separators.now changes.now values.now area.old tickets.old result list.new store.new area.new tickets.new }
+) -> Result<usize, Refusal>
+    requires { RowLent lent }
+    ensures { LentSays list.old store.old lent.entry area.old tickets.old result list.new store.new area.new tickets.new }
 {
-    drain(list, 0);
-    clear(store);
-    let at = take_turns(
-        list, store, pages, separators, changes, values, area, tickets,
-    );
-    close_row(at, list, store, area, tickets)
+    let lengths = Lengths {
+        room: Room::of(list, store),
+        values: lent.values.len(),
+        area: area.len(),
+        tickets: tickets.len(),
+    };
+    row_verdict(lengths, lent.pages, lent.separators, lent.changes, PAGE)?;
+    list.fill(blank_entry());
+    store.fill(0);
+    let turned = take_turns(list, store, lent, area, tickets);
+    close_row(turned, list, store, area, tickets)
 }
 
-// Applies rising changes to a row of at most 16 pages: the new row as pages and tickets; list and store are zeros after.
+// Applies rising changes to a row of at most 16 pages: the new row as pages and tickets; list and store are zeros after. C calls it, so that its parameters are what C lends. What is
+// lent to be written goes on as four slices: a struct of them would have its contracts say of each that it is still the same slice.
 pub fn apply_row(
     list: &mut [Entry],
     store: &mut [u8],
     pages: &[u8],
     separators: &[[u8; 32]],
-    changes: &[[u8; 40]],
+    changes: &[LeafChange],
     values: &[u8],
     area: &mut [u8],
     tickets: &mut [u8],
 ) -> LeafRow
     ensures { RowSays list.old store.old pages.now separators.now changes.now values.now area.old tickets.old result list.new store.new area.new tickets.new }
 {
-    match row_verdict(
-        list.len(),
-        store.len(),
+    let lent = LentRow {
         pages,
         separators,
         changes,
-        values.len(),
-        area.len(),
-        tickets.len(),
-        PAGE_SIZE,
-    ) {
-        Ok(()) => accepted_row(
-            list, store, pages, separators, changes, values, area, tickets,
-        ),
-        Err(refusal) => refused_row(u8::from(refusal)),
-    }
+        values,
+    };
+    LeafRow::from(new_row(list, store, lent, area, tickets))
 }

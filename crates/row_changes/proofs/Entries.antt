@@ -9,7 +9,7 @@ use lib.ListN.{length, get_or, take}
 use lib.Seq.{length-take-le}
 use borrow.Author.Tests.{not-true, not-false}
 use Rattle.row_changes.specs.Packed.{key_of, is_put, flag_of, length_of, value_length}
-use Rattle.row_changes.specs.Tests.{put_body}
+use Rattle.row_changes.specs.Tests.{size_with, put_body}
 
 -- ---- its bytes
 
@@ -40,21 +40,21 @@ module _ (c : List ℕ) (a b d f : ℕ) (ea : a ≡ get_or c 36 0) (eb : b ≡ g
 pub length_is_small : (a b d f : ℕ) → a < 256 → b < 256 → d < 256 → f < 256 → a + 256 * b + 65536 * (d + 256 * f) < 4294967296
 length_is_small a b d f ha hb hd hf = omega (arith, ha, hb, hd, hf)
 
--- ---- what it takes and adds
+-- ---- what it takes
 
-module _ (c : List ℕ) (t : Bool) (e : t ≡ is_put c) where
-  pub a_put_takes_its_length : not t ≡ false → (n : ℕ) → n ≡ length_of c → n ≡ value_length c
-  unfolding value_length
+module _ (beside : ℕ) (c : List ℕ) (t : Bool) (e : t ≡ is_put c) where
+  pub a_put_takes_its_length : not t ≡ false → (n : ℕ) → n ≡ length_of c → n + beside ≡ size_with beside c
+  unfolding size_with
   a_put_takes_its_length h n q = rw (← e, not-false t h, q)
 
-  pub a_deletion_takes_nothing : not t ≡ true → 0 ≡ value_length c
-  unfolding value_length
+  pub a_deletion_takes_nothing : not t ≡ true → 0 ≡ size_with beside c
+  unfolding size_with
   a_deletion_takes_nothing h = rw (← e, not-true t h)
 
-  pub a_put_adds_a_body : t ≡ true → (n : ℕ) → n ≡ length_of c → 34 + n ≡ put_body c
-  unfolding put_body
-  a_put_adds_a_body h n q = rw (← e, h, q)
+pub a_value_is_alone : (c : List ℕ) → size_with 0 c ≡ value_length c
+unfolding size_with value_length
+a_value_is_alone c = let n : length_of c + 0 ≡ length_of c = omega arith in rw n
 
-  pub a_deletion_adds_nothing : t ≡ false → 0 ≡ put_body c
-  unfolding put_body
-  a_deletion_adds_nothing h = rw (← e, h)
+pub a_body_has_a_pointer : (c : List ℕ) → size_with 34 c ≡ put_body c
+unfolding size_with put_body
+a_body_has_a_pointer c = let n : length_of c + 34 ≡ 34 + length_of c = omega arith in rw n

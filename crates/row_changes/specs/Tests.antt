@@ -13,6 +13,10 @@ sum_of f (c ∷ cs) = f c + sum_of f cs
 abbrev pub values_length : List (List ℕ) → ℕ
 values_length cs = sum_of value_length cs
 
+-- what a new value takes, with so many bytes more; a deletion takes nothing
+unfoldable pub size_with : ℕ → List ℕ → ℕ
+size_with beside c = cond (is_put c) (length_of c + beside) 0
+
 -- No. 12, "new value over 1,332": no value is longer than `most`
 abbrev pub lengths_fit : ℕ → List (List ℕ) → Bool
 lengths_fit most cs = every (λ c. leb (value_length c) most) cs

@@ -2,9 +2,9 @@
 // bodies that they insert.
 #![tactic(auto)]
 
-ghost use Rattle.std.specs.Prelude.{◌≡◌, ◌<◌, leb, length};
+ghost use Rattle.std.specs.Prelude.{◌≡◌, ◌+◌, ◌≤◌, ◌<◌, leb, length};
 ghost use Rattle.row_changes.specs.Packed.{key_of, is_put, flag_of, length_of, value_length};
-ghost use Rattle.row_changes.specs.Tests.{values_length, lengths_fit, keys_rising, put_body, put_bodies};
+ghost use Rattle.row_changes.specs.Tests.{sum_of, values_length, lengths_fit, keys_rising, put_bodies, size_with};
 
 use bit_ops::{bytes_from, less};
 
@@ -38,42 +38,55 @@ pub fn len_at(change: &LeafChange) -> usize
     u32::from_le_bytes([change[36], change[37], change[38], change[39]]) as usize
 }
 
+// What a new value takes, with `beside` bytes more; a deletion takes nothing.
+fn size_with(change: &LeafChange, beside: usize) -> usize
+    requires { beside ≤ 34 }
+    ensures { (result ≡ size_with beside change.now) × (result < 4294967296 + beside) }
+{
+    let size = len_at(change) + beside;
+    if !put_at(change) {
+        return 0;
+    }
+    size
+}
+
 // The bytes that it takes of the value buffer.
 pub fn value_len(change: &LeafChange) -> usize
     ensures { (result ≡ value_length change.now) × (result < 4294967296) }
 {
-    let len = len_at(change);
-    if !put_at(change) {
-        return 0;
-    }
-    len
+    size_with(change, 0)
 }
 
-// What it adds to a body.
-fn put_body(change: &LeafChange) -> usize
-    ensures { result ≡ put_body change.now }
-{
-    if put_at(change) {
-        return 34 + len_at(change);
-    }
-    0
-}
+// ---- all of them
 
-// ---- all of them. Sums could pass a usize, so what is left of a length or a budget is counted down.
-
-// No. 10: whether a buffer of `len` bytes has the values of all changes.
-pub fn values_there(changes: &[LeafChange], len: usize) -> bool
-    ensures { result ≡ leb (values_length changes.now) len }
+// Whether all of them take no more than `budget`. The sum could pass a usize, so what is left of the budget is counted down.
+fn within(changes: &[LeafChange], budget: usize, beside: usize) -> bool
+    requires { beside ≤ 34 }
+    ensures { result ≡ leb (sum_of (size_with beside) changes.now) budget }
 {
-    let mut left = len;
+    let mut left = budget;
     for change in changes {
-        let taken = value_len(change);
+        let taken = size_with(change, beside);
         if left < taken {
             return false;
         }
         left -= taken;
     }
     true
+}
+
+// No. 10: whether a buffer of `len` bytes has the values of all changes.
+pub fn values_there(changes: &[LeafChange], len: usize) -> bool
+    ensures { result ≡ leb (values_length changes.now) len }
+{
+    within(changes, len, 0)
+}
+
+// Whether the bodies that all changes insert come to no more than `budget`: each new value with its pointer.
+pub fn bodies_within(changes: &[LeafChange], budget: usize) -> bool
+    ensures { result ≡ leb (put_bodies changes.now) budget }
+{
+    within(changes, budget, 34)
 }
 
 // No. 12: whether no value is longer than `most`.
@@ -89,7 +102,8 @@ pub fn lengths_fit(changes: &[LeafChange], most: usize) -> bool
     true
 }
 
-// No. 13: whether each key is below the next.
+// No. 13: whether each key is below the next. leaf_node's test of a page stands apart: a page's keys lie between
+// offsets, and there is no slice of keys that both could go over.
 pub fn keys_rise(changes: &[LeafChange]) -> bool
     ensures { result ≡ keys_rising changes.now }
 {
@@ -97,21 +111,6 @@ pub fn keys_rise(changes: &[LeafChange]) -> bool
         if !less(key_of(&changes[i - 1]), key_of(&changes[i])) {
             return false;
         }
-    }
-    true
-}
-
-// Whether the bodies that all changes insert come to no more than `budget`.
-pub fn bodies_within(changes: &[LeafChange], budget: usize) -> bool
-    ensures { result ≡ leb (put_bodies changes.now) budget }
-{
-    let mut left = budget;
-    for change in changes {
-        let body = put_body(change);
-        if left < body {
-            return false;
-        }
-        left -= body;
     }
     true
 }

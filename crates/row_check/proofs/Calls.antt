@@ -1,48 +1,26 @@
 -- The numbers behind the pages', row after row of the table, and No. 17 by what is lent. Assumes nothing.
-use mathlib.Core.Path.{◌≡◌, refl, sym, ap, ◌∙◌}
+use mathlib.Core.Path.{◌≡◌, sym, ◌∙◌}
 use mathlib.Core.Bool.{Bool, true, false, not, ◌&&◌}
-use mathlib.Core.List.{List, [], ◌∷◌}
-use Prim.Native.Nat.{ℕ, ◌+◌, ◌-◌, ◌*◌, ◌/◌, ◌≤◌, ◌<◌, min}
+use mathlib.Core.List.{List}
+use Prim.Native.Nat.{ℕ, ◌+◌, ◌-◌, ◌*◌, ◌/◌, ◌≤◌, ◌<◌}
 use native.Mathlib.Omega.{arith}
 use native.Mathlib.Decide.{dec_lt}
-use native.Mathlib.Nat.{le-div_iff_mul-le, div-lt_iff_lt-mul, div-mul-le_self, mul-le-mul, mul-le-mul_left}
+use native.Mathlib.Nat.{le-div_iff_mul-le, div-lt_iff_lt-mul, div-mul-le_self, mul-le-mul}
 use lib.Dec.{leb}
-use lib.ListN.{length, get_or}
+use lib.ListN.{length}
 use mir.Syntax.{w64}
 use mir.Val.{Fits}
-use borrow.Author.Tests.{eqb-true, leb-true, le-leb, lt-leb, lt-ltb, le-ltb, not-true, not-false}
+use borrow.Author.Tests.{leb-true, le-leb, lt-leb, lt-ltb, le-ltb, not-true, not-false}
 use Rattle.leaf_node.specs.Limits.{PageSize, body_limit, value_limit, merge_below, pages_asked}
-use Rattle.leaf_model.specs.Work.{zero_key}
 use Rattle.leaf_model.proofs.Tests.{and_left, and_right}
-use Rattle.leaf_work.specs.Tests.{same_bytes}
 use Rattle.leaf_work.specs.Lent.{room_right}
 use Rattle.leaf_work.specs.Verdict.{unless}
 use Rattle.leaf_base.proofs.Bases.{first_refused}
 use Rattle.leaf_work.proofs.Tests.{and_both, one_test}
 use Rattle.row_turns.specs.Changes.{row_pages_asked}
 use Rattle.row_changes.specs.Tests.{values_length, lengths_fit, keys_rising, put_bodies}
-use Rattle.row_check.specs.Steps.{pages_lent, WholeRow}
-use Rattle.row_check.specs.Verdict.{row_of, whole_pages, leaves_verdict, pages_verdict, starts_at_zero, short_from_zero, lent_row_verdict, row_has_pages, call_verdict, row_verdict}
-
--- ---- No. 18
-
-module _ (ss : List (List ℕ)) where
-  pub no_page_is_short : length ss ≡ 0 → true ≡ short_from_zero ss
-  no_page_is_short e = go ss e
-    where
-      go : (xs : List (List ℕ)) → length xs ≡ 0 → true ≡ short_from_zero xs
-      go [] e = refl
-      go (x ∷ xs) e = absurd (omega arith)
-
-  pub many_pages_are_long : 16 < length ss → false ≡ short_from_zero ss
-  many_pages_are_long l = rw (lt-leb (length ss) 16 l)
-
-  pub the_first_separator_decides : (length ss ≡ 0 → ⊥) → length ss ≤ 16 → (s : List ℕ) → s ≡ get_or ss 0 [] → (r : Bool) → r ≡ same_bytes s zero_key → r ≡ short_from_zero ss
-  the_first_separator_decides n l s e r q = rw (le-leb (length ss) 16 l) (q ∙ ap (λ (x : List ℕ). same_bytes x zero_key) e ∙ go ss n)
-    where
-      go : (xs : List (List ℕ)) → (length xs ≡ 0 → ⊥) → same_bytes (get_or xs 0 []) zero_key ≡ starts_at_zero xs
-      go [] n = absurd (n refl)
-      go (x ∷ xs) n = refl
+use Rattle.row_check.specs.Steps.{pages_lent}
+use Rattle.row_check.specs.Verdict.{row_of, whole_pages, leaves_verdict, pages_verdict, short_from_zero, lent_row_verdict, row_has_pages, call_verdict, row_verdict}
 
 -- ---- No. 17
 
@@ -51,12 +29,6 @@ fewer_area_pages size area tickets h = rw (lt-ltb (area / size) (tickets / 65) h
 
 fewer_ticket_places : (size area tickets : ℕ) → tickets / 65 ≤ area / size → tickets / 65 ≡ pages_lent size area tickets
 fewer_ticket_places size area tickets h = rw (le-ltb (area / size) (tickets / 65) h)
-
-pub the_fewer_are_lent : (size area tickets : ℕ) → min (area / size) (tickets / 65) ≡ pages_lent size area tickets
-the_fewer_are_lent size area tickets = elim (dec_lt (area / size) (tickets / 65)) [
-  | yes h ↦ omega (arith, h, fewer_area_pages size area tickets h)
-  | no h ↦ omega (arith, fewer_ticket_places size area tickets (omega arith))
-]
 
 module _ (size area tickets : ℕ) where
   abbrev P : ℕ
@@ -109,7 +81,7 @@ module _ (size area tickets : ℕ) where
       pub too_few_pages : p < 2 * n → false ≡ row_has_pages size n b area tickets
       too_few_pages l = sym (lt-leb (row_pages_asked size n b) P (omega (arith, l, e))) ∙ there (row_pages_asked size n b)
 
-      pub the_budget_decides : 2 * n ≤ p → (r : Bool) → r ≡ leb b ((p - 2 * n) * ((size - 2) / 2)) → r ≡ row_has_pages size n b area tickets
+      pub the_budget_decides : 2 * n ≤ p → (r : Bool) → r ≡ leb b ((p - 2 * n) * merge_below size) → r ≡ row_has_pages size n b area tickets
       unfolding merge_below body_limit
       the_budget_decides l r d =
           d
@@ -119,13 +91,11 @@ module _ (size area tickets : ℕ) where
           (λ h. le-leb (pages_asked size b) (p - 2 * n) (omega (arith, leb-true (row_pages_asked size n b) P h, l, e)))
           ∙ there (row_pages_asked size n b)
 
-      pub a_budget_fits : area < 18446744073709551616 → Fits w64 ((p - 2 * n) * ((size - 2) / 2))
+      pub a_budget_fits : area < 18446744073709551616 → Fits w64 ((p - 2 * n) * merge_below size)
+      unfolding merge_below body_limit
       a_budget_fits h =
-          let x : (p - 2 * n) * ((size - 2) / 2) ≤ (area / size) * size = mul-le-mul (omega (arith, e, lesser.by_area)) (omega arith) in
+          let x : (p - 2 * n) * merge_below size ≤ (area / size) * size = mul-le-mul (omega (arith, e, lesser.by_area)) (omega arith) in
           record { fits = omega (arith, x, div-mul-le_self area size, h) }
-
-pub twice_the_pages_fit : (n size : ℕ) → PageSize size → n * size < 18446744073709551616 → Fits w64 (2 * n)
-twice_the_pages_fit n size q h = let x : n * 2 ≤ n * size = mul-le-mul_left n (omega (arith, q.least)) in record { fits = omega (arith, x, h) }
 
 -- ---- row after row
 
@@ -169,10 +139,8 @@ module _ (size list store : ℕ) (separators changes : List (List ℕ)) (values 
               a_right_row_is_accepted h =
                   rw (← e₁, not-false t₁ h₁, ← e₂, not-false t₂ h₂, ← e₃, not-false t₃ h₃, ← e₄, not-false t₄ h₄, ← e₅, not-false t₅ h₅, ← e₆, not-false t₆ h)
 
--- the limit of a value, as the code has it
-pub the_limit_of_a_value : (size : ℕ) (changes : List (List ℕ)) (t : Bool) → t ≡ lengths_fit ((size - 2) / 3 - 32) changes → t ≡ lengths_fit (value_limit size) changes
-unfolding value_limit body_limit
-the_limit_of_a_value size changes t e = e
+pub the_limit_of_a_value : (size most : ℕ) (changes : List (List ℕ)) (t : Bool) → most ≡ value_limit size → t ≡ lengths_fit most changes → t ≡ lengths_fit (value_limit size) changes
+the_limit_of_a_value size most changes t e d = rw (← e) d
 
 -- ---- the pages, then the rest
 
@@ -185,12 +153,6 @@ module _ (size : ℕ) (pages : List ℕ) (separators : List (List ℕ)) (t : Boo
   no_whole_pages_have_number_1 h = no_whole_pages (unless 18 (short_from_zero separators) 0) h
 
   module _ (h : not t ≡ false) where
-    pub whole_pages_are_a_row : PageSize size → length pages < 18446744073709551616 → WholeRow size pages separators
-    whole_pages_are_a_row q f = record { sized = q; whole = eqb-true (length pages) (length separators * size) (sym e ∙ not-false t h); fits = f }
-
-    pub a_row_is_not_too_long : PageSize size → length pages < 18446744073709551616 → length separators * size < 18446744073709551616
-    a_row_is_not_too_long q f = omega (arith, (whole_pages_are_a_row q f).whole, f)
-
     module _ (v : ℕ) (ev : v ≡ leaves_verdict size 0 (row_of size pages separators)) where
       a_bad_leaf : (later : ℕ) → (v ≡ 0 → ⊥) → v ≡ pages_verdict size pages separators later
       a_bad_leaf later n = rw (← e, not-false t h, ← ev) (sym (first_refused v later n))

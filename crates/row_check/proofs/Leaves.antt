@@ -9,11 +9,11 @@ use Rattle.refusal.proofs.Numbers.{not_accepted}
 use mathlib.Core.Path.{◌≡◌, refl, sym, ap, ◌∙◌}
 use mathlib.Core.Bool.{true, ◌&&◌}
 use mathlib.Core.List.{List, [], ◌∷◌}
-use Prim.Native.Nat.{ℕ, ◌+◌, ◌-◌, ◌*◌, ◌/◌, ◌%◌, ◌≤◌, ◌<◌}
+use Prim.Native.Nat.{ℕ, ◌+◌, ◌*◌, ◌/◌, ◌%◌, ◌≤◌, ◌<◌}
 use native.Mathlib.Omega.{arith}
 use native.Mathlib.Decide.{dec_lt}
 use native.Mathlib.Numerals.{add-one}
-use native.Mathlib.Nat.{mul-le-mul_right, mul-div_cancel, div-add-mod'}
+use native.Mathlib.Nat.{mul-div_cancel, div-add-mod'}
 use lib.Dec.{eqb, ltb}
 use lib.ListN.{length, get_or, take, drop, length-drop}
 use lib.Seq.{drop-cons, drop-drop}
@@ -21,10 +21,9 @@ use borrow.Author.Tests.{eq-eqb, eqb-true, lt-ltb, le-ltb}
 use Rattle.leaf_node.specs.Limits.{PageSize}
 use Rattle.leaf_model.proofs.Tests.{and_left, and_right}
 use Rattle.leaf_work.specs.Tests.{key_if, lent_key}
-use Rattle.leaf_work.specs.Verdict.{base_verdict}
 use Rattle.leaf_work.proofs.Tests.{and_both, one_test}
 use Rattle.row_turns.specs.Row.{cutoff_by}
-use Rattle.row_check.specs.Steps.{leaf_verdict, WholeRow, LeafThere}
+use Rattle.row_check.specs.Steps.{leaf_verdict}
 use Rattle.row_check.specs.Verdict.{row_of, whole_pages, lower, leaves_verdict}
 
 -- ---- No. 1
@@ -72,25 +71,10 @@ module _ (v w : Result (Unit {0}) Refusal) where
 
 -- ---- one leaf
 
-pub a_whole_row_has_its_leaves : (size : ℕ) (pages : List ℕ) (separators : List (List ℕ)) (i : ℕ) → WholeRow size pages separators → i < length separators → LeafThere size pages separators i
-a_whole_row_has_its_leaves size pages separators i w h = record {
-  sized = w.sized;
-  there = h;
-  inside = omega (arith, w.whole, mul-le-mul_right size h);
-  fits = w.fits;
-}
-
 module _ (size : ℕ) (pages : List ℕ) (separators : List (List ℕ)) (i : ℕ) where
-  same_page : take (i * size + size - i * size) (drop (i * size) pages) ≡ take size (drop (i * size) pages)
-  same_page = let e : i * size + size - i * size ≡ size = omega arith in ap (λ (n : ℕ). take n (drop (i * size) pages)) e
-
   next_separator : (c : std.Option (Bor (List ℕ))) → IsItemAt separators (i + 1) c → lent_key c ≡ key_if (ltb (i + 1) (length separators)) (get_or separators (i + 1) [])
   next_separator std.None h = rw (← h.0)
   next_separator (std.Some k) h = rw (← h.0, h.4 (omega arith) [])
-
-  pub a_leaf_ends_at_the_next_separator : (p s : List ℕ) → p ≡ take (i * size + size - i * size) (drop (i * size) pages) → s ≡ get_or separators i [] → (c : std.Option (Bor (List ℕ)))
-      → IsItemAt separators (i + 1) c → (r : ℕ) → r ≡ base_verdict size p s (lent_key c) → r ≡ leaf_verdict size pages separators i
-  a_leaf_ends_at_the_next_separator p s ep es c h r q = q ∙ rw (ep, es, same_page, next_separator c h)
 
 -- ---- leaf after leaf
 
@@ -113,13 +97,7 @@ module _ (size : ℕ) (pages : List ℕ) (separators : List (List ℕ)) where
     pub within : i ≤ length separators
     pub same : leaves_verdict size v (row_of size (drop (i * size) pages) (drop i separators)) ≡ leaves_verdict size 0 (row_of size pages separators)
 
-  pub no_leaf_yet : Lowest 0 0
-  no_leaf_yet = let e : 0 * size ≡ 0 = omega arith in record { within = omega arith; same = ap (λ (n : ℕ). leaves_verdict size 0 (row_of size (drop n pages) separators)) e }
-
   module _ (v i : ℕ) (h : Lowest v i) where
-    pub all_leaves : length separators ≤ i → v ≡ leaves_verdict size 0 (row_of size pages separators)
-    all_leaves l = rw (drop_past i separators l) at h.same
-
     pub one_leaf_more : i < length separators → (x : ℕ) → x ≡ leaf_verdict size pages separators i → (w : ℕ) → w ≡ lower v x → Lowest w (i + 1)
     one_leaf_more l x ex w ew =
         let next : (i + 1) * size ≡ i * size + size = omega arith in

@@ -1,6 +1,5 @@
 -- What the functions below the verdicts find, and what they require as plain facts.
 use Rattle.std.specs.Prelude.{◌≡◌, cond, List, [], ℕ, ◌+◌, ◌*◌, ◌/◌, ◌≤◌, ◌<◌, ltb, length, get_or, take, drop}
-use Rattle.leaf_node.specs.Limits.{PageSize}
 use Rattle.leaf_work.specs.Tests.{key_if}
 use Rattle.leaf_work.specs.Verdict.{base_verdict}
 
@@ -15,13 +14,11 @@ pages_lent size area tickets = cond (ltb (area / size) (tickets / 65)) (area / s
 
 -- No. 1 was passed: there are as many whole pages as separators
 pub record WholeRow (size : ℕ) (pages : List ℕ) (separators : List (List ℕ)) : Type 0 where
-  pub sized : PageSize size
   pub whole : length pages ≡ length separators * size
   pub fits : length pages < 18446744073709551616
 
 -- leaf i is one of them
 pub record LeafThere (size : ℕ) (pages : List ℕ) (separators : List (List ℕ)) (i : ℕ) : Type 0 where
-  pub sized : PageSize size
   pub there : i < length separators
   pub inside : i * size + size ≤ length pages
   pub fits : length pages < 18446744073709551616

@@ -3,7 +3,6 @@
 
 ghost use Rattle.std.specs.Prelude.{◌≡◌, ◌*◌, ◌<◌, length};
 ghost use Rattle.refusal.specs.Numbers.{number_of};
-ghost use Rattle.leaf_node.specs.Limits.{PageSize};
 ghost use Rattle.row_changes.specs.Tests.{put_bodies};
 ghost use Rattle.row_check.specs.Steps.{leaf_verdict, pages_lent, WholeRow, LeafThere};
 ghost use Rattle.row_check.specs.Verdict as says;
@@ -11,9 +10,20 @@ ghost use Rattle.row_check.specs.Verdict.{row_of, whole_pages, leaves_verdict, s
 
 use leaf_base::base_verdict;
 use leaf_check::room_right;
+use leaf_node::Size;
 use leaf_pass::is_zero_key;
+use leaf_work::Room;
 use refusal::Refusal;
 use row_changes::{LeafChange, bodies_within, keys_rise, lengths_fit, values_there};
+
+// How long what a row call is lent is, where that is all that is asked of it.
+#[derive(Clone, Copy)]
+pub struct Lengths {
+    pub room: Room,
+    pub values: usize,
+    pub area: usize,
+    pub tickets: usize,
+}
 
 // The most pages of a row.
 pub const MOST_LEAVES: usize = 16;
@@ -21,11 +31,10 @@ pub const MOST_LEAVES: usize = 16;
 // ---- Nos. 1 to 6
 
 // Whether there are as many whole pages as separators.
-fn whole_pages(pages: usize, separators: usize, size: usize) -> bool
-    requires { PageSize size }
-    ensures { result ≡ whole_pages size pages separators }
+fn whole_pages(pages: usize, separators: usize, size: Size) -> bool
+    ensures { result ≡ whole_pages size.bytes pages separators }
 {
-    (pages % size == 0) & (pages / size == separators)
+    (pages % size.bytes == 0) & (pages / size.bytes == separators)
 }
 
 // The lower of two refusals, where there are two.
@@ -41,21 +50,21 @@ fn lower(v: Result<(), Refusal>, w: Result<(), Refusal>) -> Result<(), Refusal>
 }
 
 // Nos. 2 to 6 of leaf i, whose cutoff is the next separator.
-fn leaf_verdict(pages: &[u8], separators: &[[u8; 32]], i: usize, size: usize) -> Result<(), Refusal>
-    requires { LeafThere size pages.now separators.now i }
-    ensures { number_of result ≡ leaf_verdict size pages.now separators.now i }
+fn leaf_verdict(pages: &[u8], separators: &[[u8; 32]], i: usize, size: Size) -> Result<(), Refusal>
+    requires { LeafThere size.bytes pages.now separators.now i }
+    ensures { number_of result ≡ leaf_verdict size.bytes pages.now separators.now i }
 {
-    let from = i * size;
-    let to = from + size;
+    let from = i * size.bytes;
+    let to = from + size.bytes;
     let cutoff = separators.get(i + 1);
     base_verdict(&pages[from..to], &separators[i], cutoff, size)?;
     Ok(())
 }
 
 // Nos. 2 to 6 of all leaves: the lowest number over all of them.
-fn leaves_verdict(pages: &[u8], separators: &[[u8; 32]], size: usize) -> Result<(), Refusal>
-    requires { WholeRow size pages.now separators.now }
-    ensures { number_of result ≡ leaves_verdict size 0 (row_of size pages.now separators.now) }
+fn leaves_verdict(pages: &[u8], separators: &[[u8; 32]], size: Size) -> Result<(), Refusal>
+    requires { WholeRow size.bytes pages.now separators.now }
+    ensures { number_of result ≡ leaves_verdict size.bytes 0 (row_of size.bytes pages.now separators.now) }
 {
     let mut lowest = Ok(());
     for i in 0..separators.len() {
@@ -80,9 +89,8 @@ fn short_from_zero(separators: &[[u8; 32]]) -> bool
 }
 
 // What refuses a row alone: Nos. 1 to 6, and 18.
-pub fn lent_row_verdict(pages: &[u8], separators: &[[u8; 32]], size: usize) -> Result<(), Refusal>
-    requires { PageSize size }
-    ensures { number_of result ≡ lent_row_verdict size pages.now separators.now }
+pub fn lent_row_verdict(pages: &[u8], separators: &[[u8; 32]], size: Size) -> Result<(), Refusal>
+    ensures { number_of result ≡ lent_row_verdict size.bytes pages.now separators.now }
 {
     if !whole_pages(pages.len(), separators.len(), size) {
         return Err(Refusal::PageLength);
@@ -97,52 +105,47 @@ pub fn lent_row_verdict(pages: &[u8], separators: &[[u8; 32]], size: usize) -> R
 // ---- the row call
 
 // How many pages area and ticket buffer have room for.
-fn pages_lent(area: usize, tickets: usize, size: usize) -> usize
-    requires { PageSize size }
-    ensures { result ≡ pages_lent size area tickets }
+fn pages_lent(area: usize, tickets: usize, size: Size) -> usize
+    ensures { result ≡ pages_lent size.bytes area tickets }
 {
-    (area / size).min(tickets / 65)
+    (area / size.bytes).min(tickets / 65)
 }
 
 // No. 17: whether there is room for twice the n old pages, and for a page for each 2,047 of what is inserted.
-fn has_pages(n: usize, changes: &[LeafChange], area: usize, tickets: usize, size: usize) -> bool
-    requires { (PageSize size) × (n * size < 18446744073709551616) }
-    ensures { result ≡ row_has_pages size n (put_bodies changes.now) area tickets }
+fn has_pages(n: usize, changes: &[LeafChange], area: usize, tickets: usize, size: Size) -> bool
+    requires { n * size.bytes < 18446744073709551616 }
+    ensures { result ≡ row_has_pages size.bytes n (put_bodies changes.now) area tickets }
 {
     let pages = pages_lent(area, tickets, size);
     if pages < 2 * n {
         return false;
     }
-    bodies_within(changes, (pages - 2 * n) * ((size - 2) / 2))
+    bodies_within(changes, (pages - 2 * n) * size.merge_below())
 }
 
-// Nos. 7, 10, 12, 13, 17 and 18, where list, store, values, area and tickets have these lengths.
+// Nos. 7, 10, 12, 13, 17 and 18.
 fn call_verdict(
-    list: usize,
-    store: usize,
+    lent: Lengths,
     separators: &[[u8; 32]],
     changes: &[LeafChange],
-    values: usize,
-    area: usize,
-    tickets: usize,
-    size: usize,
+    size: Size,
 ) -> Result<(), Refusal>
-    requires { (PageSize size) × (length separators.now * size < 18446744073709551616) }
-    ensures { number_of result ≡ call_verdict size list store separators.now changes.now values area tickets }
+    requires { length separators.now * size.bytes < 18446744073709551616 }
+    ensures { number_of result ≡ call_verdict size.bytes lent.room.entries lent.room.bytes separators.now changes.now lent.values lent.area lent.tickets }
 {
-    if !room_right(list, store, size) {
+    if !room_right(lent.room, size) {
         return Err(Refusal::RoomLength);
     }
-    if !values_there(changes, values) {
+    if !values_there(changes, lent.values) {
         return Err(Refusal::NoSuchIndex);
     }
-    if !lengths_fit(changes, (size - 2) / 3 - 32) {
+    if !lengths_fit(changes, size.value_limit()) {
         return Err(Refusal::LongValue);
     }
     if !keys_rise(changes) {
         return Err(Refusal::KeyTooLow);
     }
-    if !has_pages(separators.len(), changes, area, tickets, size) {
+    if !has_pages(separators.len(), changes, lent.area, lent.tickets, size) {
         return Err(Refusal::ShortArea);
     }
     if !short_from_zero(separators) {
@@ -153,24 +156,17 @@ fn call_verdict(
 
 // What refuses a row and its changes before any turn is taken.
 pub fn row_verdict(
-    list: usize,
-    store: usize,
+    lent: Lengths,
     pages: &[u8],
     separators: &[[u8; 32]],
     changes: &[LeafChange],
-    values: usize,
-    area: usize,
-    tickets: usize,
-    size: usize,
+    size: Size,
 ) -> Result<(), Refusal>
-    requires { PageSize size }
-    ensures { number_of result ≡ row_verdict size list store pages.now separators.now changes.now values area tickets }
+    ensures { number_of result ≡ row_verdict size.bytes lent.room.entries lent.room.bytes pages.now separators.now changes.now lent.values lent.area lent.tickets }
 {
     if !whole_pages(pages.len(), separators.len(), size) {
         return Err(Refusal::PageLength);
     }
     leaves_verdict(pages, separators, size)?;
-    call_verdict(
-        list, store, separators, changes, values, area, tickets, size,
-    )
+    call_verdict(lent, separators, changes, size)
 }

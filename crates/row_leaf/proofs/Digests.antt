@@ -1,6 +1,6 @@
 -- A loaded leaf that is digested: what the digest requires, and that its leaves come behind those of the new row. Assumes nothing.
 use mathlib.Core.Path.{◌≡◌, refl, sym, ap, subst, ◌∙◌}
-use mathlib.Core.Bool.{true}
+use mathlib.Core.Bool.{Bool, true, false}
 use mathlib.Core.Option.{Option}
 use mathlib.Core.List.{List, [], ◌∷◌, ◌++◌, map, append-nil}
 use Prim.Native.Nat.{ℕ, ◌+◌, ◌-◌, ◌*◌, ◌≤◌, ◌<◌}
@@ -10,6 +10,7 @@ use lib.Seq.{take-length, drop-length, drop-drop}
 use borrow.Author.Tests.{le-leb}
 use Rattle.std.specs.Prelude as std
 use Rattle.std.specs.Option.{is_some}
+use Rattle.std.specs.Bool.{then_some}
 use Rattle.leaf_node.specs.Limits.{PageSize, merge_below, pages_asked}
 use Rattle.leaf_node.specs.Record.{Record, body, total}
 use Rattle.leaf_node.specs.Build.{put}
@@ -18,6 +19,7 @@ use Rattle.leaf_node.proofs.Lengths.{body_is_pointers_and_values}
 use Rattle.leaf_model.specs.Basics.{nonempty}
 use Rattle.leaf_model.specs.Cut.{Cut}
 use Rattle.leaf_model.specs.Work.{Leaf, plan, leaves_by, separator_after}
+use Rattle.leaf_model.proofs.Tests.{clash}
 use Rattle.leaf_model.proofs.Cutting.{Fitting}
 use Rattle.leaf_model.proofs.Plan.{leaves_never_more_than_pages_asked}
 use Rattle.leaf_work.specs.declared.Work.{Work}
@@ -41,19 +43,19 @@ use Rattle.digest.proofs.Calls.{an_accepted_work_is_ready}
 use Rattle.row_work.specs.Loaded.{Rests}
 use Rattle.row_work.proofs.Holds.{state, the_work_is_reached}
 use Rattle.row_work.proofs.Digesting.{a_digest_rests}
-use Rattle.row_ingest.specs.declared.Taking.{Taking}
 use Rattle.row_tickets.specs.Linked.{linked_all, last_linked, separators_read}
 use Rattle.row_leaf.specs.declared.RowAt.{RowAt}
-use Rattle.row_leaf.specs.Load.{LinkThere, given_by, DigestThere, LeavesGiven}
+use Rattle.row_leaf.specs.Load.{LinkThere, given_by, Between, DigestThere, LeavesGiven}
+
+no_record : (rs : List Record) → nonempty rs ≡ false → rs ≡ []
+no_record [] e = refl
+no_record (r ∷ rs) e = clash refl e
 
 asked_few : (b : ℕ) → b ≤ 204800 → pages_asked 4096 b ≤ 101
 unfolding merge_below
 asked_few b h = omega (arith, h)
 
-module _ (at : RowAt) (taken : Taking) (list : List Entry) (store page : List ℕ) (to : ℕ) (area tickets : List ℕ) (h : DigestThere at taken list store page area tickets) where
-  abbrev w : Work
-  w = taken.work
-
+module _ (at : RowAt) (w : Work) (list : List Entry) (store page area tickets : List ℕ) (h : DigestThere at w list store page area tickets) where
   abbrev q : PageSize 4096
   q = a_page_has_4096_bytes
 
@@ -98,9 +100,6 @@ module _ (at : RowAt) (taken : Taking) (list : List Entry) (store page : List �
   part_is from = ap (λ (n : ℕ). take n (drop from area)) (sym (length-drop from area)) ∙ take-length (drop from area)
 
   module _ (from : ℕ) (f : from ≡ at.leaves * 4096) where
-    pub the_area_begins : from ≤ length area
-    the_area_begins = omega (arith, f, h.area_room)
-
     abbrev rest : List ℕ
     rest = take (length area - from) (drop from area)
 
@@ -166,12 +165,11 @@ module _ (at : RowAt) (taken : Taking) (list : List Entry) (store page : List �
             ap length eb,
           )
 
-      pub its_leaves_can_be_linked : length tickets < 18446744073709551616 → LinkThere at taken r.leaves own' tickets
+      pub its_leaves_can_be_linked : length tickets < 18446744073709551616 → LinkThere at r.leaves own' tickets
       its_leaves_can_be_linked t = record {
         ticket_room = omega (arith, so_many, few_leaves, h.ticket_room);
         own_room = omega (arith, so_many, few_leaves, few_pages, own_long);
         leaves_fit = omega (arith, so_many, few_leaves, h.ticket_room, t);
-        value_fits_lem = h.value_fits_lem;
       }
 
       separators_are : separators_read r.leaves own' ≡ map (λ l. l.separator) leaves
@@ -200,16 +198,21 @@ module _ (at : RowAt) (taken : Taking) (list : List Entry) (store page : List �
       resting =
           rw (m.work_is, m.list_is, m.store_is) (a_digest_rests 4096 q w list store page rest b h.loaded (rw eb has_room))
 
-      pub its_leaves_are_given : (after : RowAt) (tickets' : List ℕ) → (after ≡ given_by at taken r w' to own') × (tickets' ≡ linked_all at.leaves at.last (separators_read r.leaves own') tickets)
-          → LeavesGiven at (separator_of w) c P to (at.value + taken.value) area tickets after list' store' (take from area ++ (rest' ++ drop (length area - from) (drop from area))) tickets'
+      between : Between (then_some (is_some r.cutoff) w') list' store' p.left (separator_after (separator_of w) p.leaves p.left) c
+      between = go (is_some r.cutoff) waits_or_not
+        where
+          go : (b : Bool) → b ≡ nonempty p.left → Between (then_some b w') list' store' p.left (separator_after (separator_of w) p.leaves p.left) c
+          go true e = (sym e, resting.waits (sym e))
+          go false e = let z = no_record p.left (sym e) in (z, (resting.clear z).0, (resting.clear z).1)
+
+      pub its_leaves_are_given : (after : RowAt) (tickets' : List ℕ) → (after ≡ given_by at r w' own') × (tickets' ≡ linked_all at.leaves at.last (separators_read r.leaves own') tickets)
+          → LeavesGiven at (separator_of w) c P at.change at.value area tickets after list' store' (take from area ++ (rest' ++ drop (length area - from) (drop from area))) tickets'
       its_leaves_are_given after tickets' g = rw g.0 (record {
-        none = refl;
         leaves_are = ap (λ (n : ℕ). at.leaves + n) so_many;
         last_is = ap (last_linked at.leaves at.last) separators_are;
         change_is = refl;
         value_is = refl;
-        waiting_is = waits_or_not;
         area_is = pages_are;
         tickets_are = g.1 ∙ ap (λ (ss : List (List ℕ)). linked_all at.leaves at.last ss tickets) separators_are;
-        rests = resting;
+        rests = between;
       })

@@ -3,97 +3,94 @@
 #![tactic(auto)]
 
 ghost use Rattle.std.specs.Prelude.{◌≡◌, ◌+◌, ◌*◌, ◌≤◌, ◌<◌, length, replicate};
-ghost use Rattle.row_leaf.specs.Leaf.{next_separator, leaf_at, page_in, changes_end, is_loaded, Begins, begun_by, CopyThere, LeafCopied};
-ghost use Rattle.leaf_work.specs.Lent.{cutoff_of, separator_of};
-ghost use Rattle.leaf_work.specs.Pending.{pending_of};
+ghost use Rattle.row_leaf.specs.Leaf.{leaf_at, PageThere, BaseThere, page_in, changes_end, is_loaded, Begins, LeafBegun, CopyThere, LeafCopied};
 ghost use Rattle.row_tickets.specs.Linked.{linked_all, separators_read};
-ghost use Rattle.row_leaf.specs.Load.{PageThere, LinkThere, given_by, DigestThere, LeavesGiven, LoadThere, refused_by, LeafLoaded};
+ghost use Rattle.row_leaf.specs.Load.{LinkThere, given_by, DigestThere, LeafDigested, LoadAsked, LoadGiven};
 
 use bit_ops::less;
 use digest::digest_ready;
 use leaf_again::{follows_verdict, next_base_work};
 use leaf_digest::Given;
-use leaf_node::{LeafNode, PAGE_SIZE, copy_in, count_of};
+use leaf_node::{LeafNode, PAGE, PAGE_SIZE, copy_in, count_of};
 use leaf_open::fresh_work;
-use leaf_work::{Entry, Work};
-use refusal::number_of;
-use row_changes::key_of;
-use row_ingest::{Taking, take_changes};
+use leaf_work::{Entry, Room, Work};
+use refusal::Refusal;
+use row_changes::{LeafChange, key_of};
+use row_ingest::take_changes;
 use row_tickets::{link, link_leaves};
 
-// A leaf of the row: its page's place, its separator, and its cutoff where there is one. A row without leaves has an empty one that is no base.
+// What a row call is lent and only reads: the row's pages and separators, the changes, and their values.
 #[derive(Clone, Copy)]
-pub struct LeafAt {
-    pub based: bool,
-    pub from: usize,
-    pub to: usize,
-    pub cut: bool,
-    pub separator: [u8; 32],
-    pub cutoff: [u8; 32],
+pub struct LentRow<'a> {
+    pub pages: &'a [u8],
+    pub separators: &'a [[u8; 32]],
+    pub changes: &'a [LeafChange],
+    pub values: &'a [u8],
 }
 
-// What the turns have come to: 0 or the refusal in the middle; the leaves of the new row and the last one's separator; the next change and where its value begins; whether records
-// wait for a merge, and the work that holds them.
+// A leaf of the row: where its page begins, its separator, and its cutoff where there is one. A row without leaves has one without a page, whose separator is zeros.
+#[derive(Clone, Copy)]
+pub struct LeafAt {
+    pub page: Option<usize>,
+    pub separator: [u8; 32],
+    pub cutoff: Option<[u8; 32]>,
+}
+
+// What the turns have come to: the leaves of the new row and the last one's separator; the next change and where its value begins; the work that holds the records that wait for
+// a merge, where there are any.
 #[derive(Clone, Copy)]
 pub struct RowAt {
-    pub number: u8,
     pub leaves: usize,
     pub last: [u8; 32],
     pub change: usize,
     pub value: usize,
-    pub waiting: bool,
-    pub work: Work,
+    pub waiting: Option<Work>,
+}
+
+// The turn of a leaf: what the turns before it have come to, the leaf, and where the changes end that it takes.
+#[derive(Clone, Copy)]
+pub struct Turn {
+    pub at: RowAt,
+    pub leaf: LeafAt,
+    pub to: usize,
+}
+
+// A leaf that is loaded: its work, and its page.
+#[derive(Clone, Copy)]
+struct LoadedLeaf<'a> {
+    work: Work,
+    node: LeafNode<'a>,
 }
 
 // ---- which leaf, and which changes
-
-// The separator behind that of leaf i, or zeros.
-fn next_separator(separators: &[[u8; 32]], i: usize) -> [u8; 32]
-    requires { i < length separators.now }
-    ensures { result ≡ next_separator separators.now i }
-{
-    if i + 1 < separators.len() {
-        return separators[i + 1];
-    }
-    [0u8; 32]
-}
 
 // Leaf i of a row with these separators.
 pub fn leaf_at(separators: &[[u8; 32]], i: usize) -> LeafAt
     requires { length separators.now ≤ 16 }
     ensures { result ≡ leaf_at separators.now i }
 {
-    let n = separators.len();
-    if n <= i {
+    if separators.len() <= i {
         return LeafAt {
-            based: false,
-            from: 0,
-            to: 0,
-            cut: false,
+            page: None,
             separator: [0u8; 32],
-            cutoff: [0u8; 32],
+            cutoff: None,
         };
     }
-    let separator = separators[i];
     LeafAt {
-        based: true,
-        from: i * PAGE_SIZE,
-        to: i * PAGE_SIZE + PAGE_SIZE,
-        cut: i + 1 < n,
-        separator: separator,
-        cutoff: next_separator(separators, i),
+        page: Some(i * PAGE_SIZE),
+        separator: separators[i],
+        cutoff: separators.get(i + 1).copied(),
     }
 }
 
 // Where the changes end that a leaf takes: the first one from `from` on whose key isn't below its cutoff.
-pub fn changes_end(changes: &[[u8; 40]], from: usize, leaf: LeafAt) -> usize
+pub fn changes_end(changes: &[LeafChange], from: usize, leaf: LeafAt) -> usize
     requires { from ≤ length changes.now }
     ensures { result ≡ changes_end changes.now from leaf }
 {
-    if !leaf.cut {
+    let Some(cutoff) = leaf.cutoff else {
         return changes.len();
-    }
-    let cutoff = leaf.cutoff;
+    };
     for i in from..changes.len() {
         if !less(key_of(&changes[i]), &cutoff) {
             return i;
@@ -106,7 +103,20 @@ pub fn changes_end(changes: &[[u8; 40]], from: usize, leaf: LeafAt) -> usize
 pub fn is_loaded(at: RowAt, to: usize) -> bool
     ensures { result ≡ is_loaded at to }
 {
-    (at.change < to) | at.waiting
+    (at.change < to) | at.waiting.is_some()
+}
+
+// ---- its page
+
+// The page of a leaf; that of a row without leaves has no bytes.
+fn page_in(leaf: LeafAt, pages: &[u8]) -> &[u8]
+    requires { PageThere leaf pages.now }
+    ensures { result.now ≡ page_in leaf pages.entry.now }
+{
+    let Some(from) = leaf.page else {
+        return &[];
+    };
+    &pages[from..from + PAGE_SIZE]
 }
 
 // ---- copied
@@ -122,21 +132,13 @@ pub fn copy_leaf(
     requires { CopyThere at leaf pages.now area.old tickets.old }
     ensures { LeafCopied at leaf pages.now area.old tickets.old result area.new tickets.new }
 {
-    let from = leaf.from;
-    let to = leaf.to;
-    let separator = leaf.separator;
-    let before = at.last;
-    copy_in(&pages[from..to], area, at.leaves * PAGE_SIZE);
-    let last = link(tickets, at.leaves, &before, &separator);
-    let work = at.work;
+    copy_in(page_in(leaf, pages), area, at.leaves * PAGE_SIZE);
+    let last = link(tickets, at.leaves, &at.last, &leaf.separator);
     RowAt {
-        number: 0,
         leaves: at.leaves + 1,
-        last: last,
-        change: at.change,
-        value: at.value,
-        waiting: false,
-        work: work,
+        last,
+        waiting: None,
+        ..at
     }
 }
 
@@ -144,13 +146,11 @@ pub fn copy_leaf(
 
 // The base of a leaf: its page; that of a row without leaves has no records.
 fn base_of(leaf: LeafAt, pages: &[u8]) -> LeafNode<'_>
-    requires { PageThere leaf pages.now }
+    requires { BaseThere leaf pages.now }
     ensures { result.page.now ≡ page_in leaf pages.entry.now }
 {
-    let from = leaf.from;
-    let to = leaf.to;
-    let page = &pages[from..to];
-    if !leaf.based {
+    let page = page_in(leaf, pages);
+    if leaf.page.is_none() {
         return LeafNode::ignored(page);
     }
     LeafNode {
@@ -160,25 +160,17 @@ fn base_of(leaf: LeafAt, pages: &[u8]) -> LeafNode<'_>
 }
 
 // The work of a leaf that is loaded: the next base of what waits, or opened.
-pub fn begin_leaf(at: RowAt, leaf: LeafAt, node: LeafNode, entries: usize, bytes: usize) -> Taking
-    requires { Begins at node.page.now entries bytes }
-    ensures { result ≡ begun_by at leaf node.entry.page.now entries bytes }
+fn begin_leaf(at: RowAt, leaf: LeafAt, page: &[u8], room: Room) -> Result<Work, Refusal>
+    requires { Begins at page.now room.entries room.bytes }
+    ensures { LeafBegun at leaf page.now room.entries room.bytes result }
 {
-    let cutoff = leaf.cut.then_some(&leaf.cutoff);
-    if !at.waiting {
-        let separator = leaf.based.then_some(&leaf.separator);
-        return Taking {
-            number: 0,
-            work: fresh_work(false, separator, cutoff),
-            value: 0,
-        };
-    }
-    let follows = follows_verdict(&at.work, node, &leaf.separator, entries, bytes);
-    Taking {
-        number: number_of(follows),
-        work: next_base_work(&at.work, &leaf.separator, cutoff),
-        value: 0,
-    }
+    let cutoff = leaf.cutoff.as_ref();
+    let Some(work) = at.waiting else {
+        let separator = leaf.page.is_some().then_some(&leaf.separator);
+        return Ok(fresh_work(false, separator, cutoff));
+    };
+    follows_verdict(&work, page, &leaf.separator, room)?;
+    Ok(next_base_work(&work, &leaf.separator, cutoff))
 }
 
 // Room for the tickets of a digest: 101 leaves, since no list and store hold a body of more than 204,800 bytes.
@@ -197,100 +189,71 @@ fn area_from(at: RowAt) -> usize
 }
 
 // The leaves that a digest gave are linked to those before them.
-fn link_given(
-    at: RowAt,
-    taken: Taking,
-    given: Given,
-    work: Work,
-    to: usize,
-    own: &[u8],
-    tickets: &mut [u8],
-) -> RowAt
-    requires { LinkThere at taken given.leaves own.now tickets.old }
-    ensures { (result ≡ given_by at taken given work to own.now) × (tickets.new ≡ linked_all at.leaves at.last (separators_read given.leaves own.now) tickets.old) }
+fn link_given(at: RowAt, given: Given, work: Work, own: &[u8], tickets: &mut [u8]) -> RowAt
+    requires { LinkThere at given.leaves own.now tickets.old }
+    ensures { (result ≡ given_by at given work own.now) × (tickets.new ≡ linked_all at.leaves at.last (separators_read given.leaves own.now) tickets.old) }
 {
-    let before = at.last;
-    let last = link_leaves(tickets, at.leaves, &before, own, given.leaves);
+    let last = link_leaves(tickets, at.leaves, &at.last, own, given.leaves);
     RowAt {
-        number: 0,
         leaves: at.leaves + given.leaves,
         last,
-        change: to,
-        value: at.value + taken.value,
-        waiting: given.cutoff.is_some(),
-        work,
+        waiting: given.cutoff.is_some().then_some(work),
+        ..at
     }
 }
 
 // A digest of what is pending, its leaves behind those of the new row.
 fn digest_leaf(
     at: RowAt,
-    taken: Taking,
+    loaded: LoadedLeaf,
     list: &mut [Entry],
     store: &mut [u8],
-    node: LeafNode,
-    to: usize,
     area: &mut [u8],
     tickets: &mut [u8],
 ) -> RowAt
-    requires { DigestThere at taken list.old store.old node.page.now area.old tickets.old }
-    ensures { LeavesGiven at (separator_of taken.work) (cutoff_of taken.work) (pending_of taken.work list.old store.old node.entry.page.now) to (at.value + taken.value) area.old tickets.old result list.new store.new area.new tickets.new }
+    requires { DigestThere at loaded.work list.old store.old loaded.node.page.now area.old tickets.old }
+    ensures { LeafDigested at loaded.entry list.old store.old area.old tickets.old result list.new store.new area.new tickets.new }
 {
     let from = area_from(at);
     let mut own = no_tickets();
-    let mut work = taken.work;
+    let mut work = loaded.work;
     let given = digest_ready(
         &mut work,
         list,
         store,
-        node,
+        loaded.node,
         &mut area[from..],
         &mut own,
-        PAGE_SIZE,
+        PAGE,
     );
-    link_given(at, taken, given, work, to, &own, tickets)
+    link_given(at, given, work, &own, tickets)
 }
 
-// A refusal in the middle.
-fn refused_leaf(at: RowAt, taken: Taking) -> RowAt
-    ensures { result ≡ refused_by at taken.number }
-{
-    RowAt {
-        number: taken.number,
-        ..at
-    }
-}
-
-// Loads a leaf: its changes up to change `to` are taken, and what is pending then is digested.
+// Loads a leaf: its changes are taken, and what is pending then is digested.
 pub fn load_leaf(
-    at: RowAt,
-    leaf: LeafAt,
+    turn: Turn,
     list: &mut [Entry],
     store: &mut [u8],
-    pages: &[u8],
-    changes: &[[u8; 40]],
-    to: usize,
-    values: &[u8],
+    lent: LentRow,
     area: &mut [u8],
     tickets: &mut [u8],
-) -> RowAt
-    requires { LoadThere at leaf list.old store.old pages.now changes.now to values.now area.old tickets.old }
-    ensures { LeafLoaded at leaf list.old store.old pages.now changes.now to values.now area.old tickets.old result list.new store.new area.new tickets.new }
+) -> Result<RowAt, Refusal>
+    requires { LoadAsked turn list.old store.old lent area.old tickets.old }
+    ensures { LoadGiven turn list.old store.old lent.entry area.old tickets.old result list.new store.new area.new tickets.new }
 {
-    let change = at.change;
-    let value = at.value;
-    let node = base_of(leaf, pages);
-    let begun = begin_leaf(at, leaf, node, list.len(), store.len());
-    let taken = take_changes(
-        begun,
-        list,
-        store,
+    let at = turn.at;
+    let node = base_of(turn.leaf, lent.pages);
+    let begun = begin_leaf(at, turn.leaf, node.page, Room::of(list, store))?;
+    let changes = &lent.changes[at.change..turn.to];
+    let taken = take_changes(begun, list, store, node, changes, &lent.values[at.value..])?;
+    let behind = RowAt {
+        change: turn.to,
+        value: at.value + taken.value,
+        ..at
+    };
+    let loaded = LoadedLeaf {
+        work: taken.work,
         node,
-        &changes[change..to],
-        &values[value..],
-    );
-    if 0 < taken.number {
-        return refused_leaf(at, taken);
-    }
-    digest_leaf(at, taken, list, store, node, to, area, tickets)
+    };
+    Ok(digest_leaf(behind, loaded, list, store, area, tickets))
 }

@@ -1,18 +1,18 @@
 -- The leaf of a row by its index, and which changes it takes, in the bytes that are lent and in the definitions. Assumes nothing.
+use Rattle.std.specs.Prelude as std
 use mathlib.Core.Path.{◌≡◌, refl, sym, ap, ◌∙◌}
 use mathlib.Core.Bool.{Bool, true, false}
-use mathlib.Core.Option.{Option, none, some}
+use mathlib.Core.Option.{Option}
 use mathlib.Core.List.{List, [], ◌∷◌}
 use Prim.Native.Nat.{ℕ, zero, suc, ◌+◌, ◌*◌, ◌≤◌, ◌<◌}
 use native.Mathlib.Omega.{arith}
-use native.Mathlib.Decide.{dec_lt}
 use lib.Dec.{ltb}
 use lib.ListN.{length, get_or, take, drop}
 use lib.Seq.{drop-drop}
 use borrow.Author.Tests.{lt-ltb, le-ltb}
 use Rattle.leaf_node.specs.Fits.{All, nil, cons}
 use Rattle.leaf_model.specs.Basics.{nonempty}
-use Rattle.leaf_model.specs.Work.{below_cutoff}
+use Rattle.leaf_model.specs.Work.{zero_key, below_cutoff}
 use Rattle.leaf_work.specs.Tests.{key_if}
 use Rattle.row_turns.specs.Row.{RowLeaf, cutoff_by, IsRow, row∷}
 use Rattle.row_turns.specs.Row as row
@@ -20,7 +20,7 @@ use Rattle.row_turns.specs.Changes.{Edit, taken, behind}
 use Rattle.row_changes.specs.Packed.{key_of, value_length, change_of, edits_of}
 use Rattle.row_changes.specs.Tests.{values_length}
 use Rattle.row_check.specs.Verdict.{row_of}
-use Rattle.row_leaf.specs.Leaf.{next_separator, count_below}
+use Rattle.row_leaf.specs.Leaf.{count_below}
 
 -- ---- the leaf
 
@@ -37,23 +37,16 @@ the_leaf size pages (s ∷ ss) (suc i) h =
     ∙ ap (λ (k : ℕ). record { separator = get_or ss i []; page = take size (drop (suc i * size) pages) } ∷ drop k (row_of size pages (s ∷ ss))) n
 
 -- "each leaf's cutoff being the next separator, the last having none"
-pub the_cutoff : (size : ℕ) (pages : List ℕ) (ss : List (List ℕ)) (i : ℕ) → cutoff_by (drop (i + 1) (row_of size pages ss)) ≡ key_if (ltb (i + 1) (length ss)) (next_separator ss i)
-the_cutoff size pages ss i = at (i + 1) refl
-  where
-    cutoff_of_lem : (pages : List ℕ) (ss : List (List ℕ)) (k : ℕ) → k < length ss → cutoff_by (drop k (row_of size pages ss)) ≡ some (get_or ss k [])
-    cutoff_of_lem pages ss k h = ap cutoff_by (the_leaf size pages ss k h)
+pub the_cutoff : (size : ℕ) (pages : List ℕ) (ss : List (List ℕ)) (k : ℕ) → cutoff_by (drop k (row_of size pages ss)) ≡ key_if (std.is_some (std.slice_get ss k)) (std.unwrap_or (std.slice_get ss k) zero_key)
+the_cutoff size pages [] zero = refl
+the_cutoff size pages [] (suc k) = refl
+the_cutoff size pages (s ∷ ss) zero = refl
+the_cutoff size pages (s ∷ ss) (suc k) = the_cutoff size (drop size pages) ss k
 
-    none_of : (pages : List ℕ) (ss : List (List ℕ)) (k : ℕ) → length ss ≤ k → cutoff_by (drop k (row_of size pages ss)) ≡ none
-    none_of pages [] zero h = refl
-    none_of pages [] (suc k) h = refl
-    none_of pages (s ∷ ss) zero h = absurd (omega (arith, h))
-    none_of pages (s ∷ ss) (suc k) h = none_of (drop size pages) ss k (omega (arith, h))
-
-    at : (k : ℕ) → k ≡ i + 1 → cutoff_by (drop (i + 1) (row_of size pages ss)) ≡ key_if (ltb (i + 1) (length ss)) (next_separator ss i)
-    at k e = elim (dec_lt (i + 1) (length ss)) [
-      | yes l ↦ cutoff_of_lem pages ss (i + 1) l ∙ rw (next_separator, lt-ltb (i + 1) (length ss) l)
-      | no l ↦ let m : length ss ≤ i + 1 = omega (arith, l) in none_of pages ss (i + 1) m ∙ rw (le-ltb (i + 1) (length ss) m)
-    ]
+pub the_next_is_long : (ss : List (List ℕ)) → All (λ s. length s ≡ 32) ss → (k : ℕ) → length (std.unwrap_or (std.slice_get ss k) zero_key) ≡ 32
+the_next_is_long [] a k = refl
+the_next_is_long (s ∷ ss) (cons l a) zero = l
+the_next_is_long (s ∷ ss) (cons l a) (suc k) = the_next_is_long ss a k
 
 pub row_behind : {size : ℕ} (i : ℕ) {xs : List RowLeaf} → IsRow size xs → IsRow size (drop i xs)
 row_behind zero h = h

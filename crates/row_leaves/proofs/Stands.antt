@@ -1,4 +1,9 @@
 -- Where the turns of a row stand before a leaf: what has been written is the new row so far, and what is lent is what the leaf's turn requires. Assumes nothing.
+use Rattle.std.specs.Prelude as std
+use Rattle.std.specs.Prelude.{Result, Ok, Err, Some, None}
+use Rattle.refusal.specs.declared.Refusal.{Refusal}
+use Rattle.refusal.specs.Numbers.{number_of}
+use Rattle.refusal.proofs.Refused.{refused}
 use mathlib.Core.Path.{◌≡◌, refl, sym, ap, subst, ◌∙◌}
 use mathlib.Core.Bool.{Bool, true, false, cond, ◌||◌}
 use mathlib.Core.Option.{Option, none, some, some-injective}
@@ -9,8 +14,7 @@ use native.Mathlib.Nat.{le_trans, mul-le-mul_right}
 use lib.Dec.{eqb, ltb}
 use lib.ListN.{length, get_or, take, drop, replicate, length-append, length-drop}
 use lib.Seq.{drop-drop, drop-length, take_at, drop_at}
-use native.Mathlib.Decide.{dec_lt}
-use borrow.Author.Tests.{eq-eqb, eqb-true, ltb-false, lt-leb, lt-ltb, le-ltb}
+use borrow.Author.Tests.{ne_eqb, eq-eqb, eqb-true, ltb-false, lt-leb}
 use Rattle.bit_ops.specs.Key.{num}
 use Rattle.bit_ops.specs.Steps.{zeros}
 use Rattle.leaf_node.specs.Limits.{PageSize, body_limit, merge_below, pages_asked}
@@ -25,6 +29,7 @@ use Rattle.leaf_model.specs.Work.{Leaf, zero_key, or_else, plan, leaves_by}
 use Rattle.leaf_model.specs.Claim.{Le}
 use Rattle.leaf_model.proofs.Tests.{clash, none_is_not_some}
 use Rattle.leaf_model.proofs.Lists.{all_append, all_map, all_head}
+use Rattle.leaf_work.specs.declared.Work.{Work}
 use Rattle.leaf_work.specs.declared.Entry.{Entry}
 use Rattle.leaf_work.specs.Tests.{is_set}
 use Rattle.leaf_work.specs.Lent.{blank, separator_of}
@@ -47,15 +52,17 @@ use Rattle.row_changes.specs.Tests.{values_length, put_bodies}
 use Rattle.row_changes.proofs.Edits.{inserted_bodies_are_those_of_the_entries, changes_that_pass_are_right}
 use Rattle.row_check.specs.Verdict.{row_of}
 use Rattle.row_check.proofs.Facts.{Passed, a_row_that_passes, leaf_is_right, row_length}
-use Rattle.row_work.specs.Loaded.{Waits, Rests}
+use Rattle.row_work.specs.Loaded.{Waits}
 use Rattle.row_tickets.specs.Linked.{separator_at, linked, linked_all, last_linked}
 use Rattle.row_tickets.proofs.NewRow.{Linked, no_leaf_is_linked, one_leaf_is_linked, leaves_are_linked}
 use Rattle.row_leaf.specs.declared.LeafAt.{LeafAt}
+use Rattle.row_leaf.specs.declared.LentRow.{LentRow}
 use Rattle.row_leaf.specs.declared.RowAt.{RowAt}
-use Rattle.row_leaf.specs.Leaf.{next_separator, leaf_at, cutoff_in, page_in, count_below, is_loaded, CopyThere, copied_by}
-use Rattle.row_leaf.specs.Load.{LeavesGiven, kept_by, begins_at, changes_in, edits_in, pending_in, LoadThere, LeafLoaded}
-use Rattle.row_leaves.specs.Turns.{to_by, TurnThere, CopiedOnly, LeafTurned, nothing_at, RowThere, RowWritten, RowTurned}
-use Rattle.row_leaves.proofs.Parts.{the_leaf, the_cutoff, row_behind, row_head, one_of, no_more_than_there_are, the_edits_taken, the_edits_behind, some_are_taken, values_in_two}
+use Rattle.row_leaf.specs.declared.Turn.{Turn}
+use Rattle.row_leaf.specs.Leaf.{leaf_at, cutoff_in, page_in, PageThere, count_below, is_loaded, CopyThere, copied_by, LeafCopied}
+use Rattle.row_leaf.specs.Load.{Between, LeavesGiven, kept_by, begins_at, changes_in, edits_in, pending_in, LoadThere}
+use Rattle.row_leaves.specs.Turns.{to_by, turn_by, TurnThere, LeafTurned, nothing_at, RowWritten, RowTurned, RowAsked}
+use Rattle.row_leaves.proofs.Parts.{the_leaf, the_cutoff, the_next_is_long, row_behind, row_head, one_of, no_more_than_there_are, the_edits_taken, the_edits_behind, some_are_taken, values_in_two}
 
 abbrev q : PageSize 4096
 q = a_page_has_4096_bytes
@@ -95,10 +102,6 @@ all_drop zero a = a
 all_drop (suc i) nil = nil
 all_drop (suc i) (cons p a) = all_drop i a
 
-not_set : (b : Bool) → (b ≡ true → ⊥) → b ≡ false
-not_set true f = absurd (f refl)
-not_set false f = refl
-
 no_element : {A : Type 0} (ys : List A) → nonempty ys ≡ false → ys ≡ []
 no_element [] e = refl
 no_element (y ∷ ys) e = clash refl e
@@ -106,6 +109,55 @@ no_element (y ∷ ys) e = clash refl e
 neither : (a b : Bool) → (a || b) ≡ false → (a ≡ false) × (b ≡ false)
 neither true b e = clash refl e
 neither false b e = (refl, e)
+
+-- ---- between two leaves
+
+module _ (list : List Entry) (store : List ℕ) (kept : List Record) (s : List ℕ) (c : Option (List ℕ)) where
+  waits_or_not : (o : std.Option Work) → Between o list store kept s c → std.is_some o ≡ nonempty kept
+  waits_or_not std.None r = rw r.0
+  waits_or_not (std.Some w) r = sym r.0
+
+  -- where nothing waits, list and store are zeros
+  nothing_waits : (o : std.Option Work) → Between o list store kept s c → kept ≡ [] → (list ≡ replicate (length list) blank) × (store ≡ zeros (length store))
+  nothing_waits std.None r e = (r.1, r.2)
+  nothing_waits (std.Some w) r e = clash r.0 (ap nonempty e)
+
+  abbrev kept_in : std.Option Work → List Record
+  kept_in o = elim o [ Some w ↦ pending_of w list store [] | None ↦ [] ]
+
+  what_waits : (o : std.Option Work) → Between o list store kept s c → kept_in o ≡ kept
+  what_waits std.None r = sym r.0
+  what_waits (std.Some w) r = r.1.pending_is
+
+  separator_waiting : (w : Work) → Waits 4096 w list store kept s c → separator_of w ≡ s
+  separator_waiting w x = ap (λ (b : Option (List ℕ)). or_else b w.latest) x.override
+
+  -- of a leaf with the separator sep, where the records begin that are pending then
+  module _ (sep : List ℕ) where
+    abbrev begins_in : std.Option Work → List ℕ
+    begins_in o = elim o [ Some w ↦ separator_of w | None ↦ sep ]
+
+    begins_at_one : (o : std.Option Work) → Between o list store kept s c → begins_in o ≡ cond (nonempty kept) s sep
+    begins_at_one std.None r = rw r.0
+    begins_at_one (std.Some w) r = rw r.0 (separator_waiting w r.1)
+
+    begins_long : (o : std.Option Work) → Between o list store kept s c → length sep ≡ 32 → length (cond (nonempty kept) s sep) ≡ 32
+    begins_long std.None r l = rw r.0 l
+    begins_long (std.Some w) r l = rw (r.0, ← (key_is_there (is_set w.over) w.overriding s r.1.override).1) r.1.holds.keys.overriding
+
+    -- as the leaf's turn requires it: the leaf asked for is this one
+    waits_for_it : (o : std.Option Work) → Between o list store kept s c → c ≡ some sep → Between o list store (kept_in o) (begins_in o) (some sep)
+    waits_for_it std.None r e = (refl, r.1, r.2)
+    waits_for_it (std.Some w) r e = (
+      rw r.1.pending_is r.0,
+      record {
+        holds = r.1.holds;
+        waiting = r.1.waiting;
+        override = r.1.override ∙ ap some (sym (separator_waiting w r.1));
+        cutoff = r.1.cutoff ∙ e;
+        pending_is = refl;
+      },
+    )
 
 -- ---- what was written, and what waits
 
@@ -115,8 +167,7 @@ module _ (area₀ tickets₀ : List ℕ) where
     pub linked_to : Linked tickets₀ t.row at.leaves at.last tickets
     pub area_is : area ≡ digest.overwrite (joined (pages_of t.row)) area₀
     pub good : All (λ x. Good 4096 x.page) t.row
-    pub waiting_is : at.waiting ≡ nonempty t.kept
-    pub rests : Rests 4096 at.work list store t.kept t.separator c
+    pub rests : Between at.waiting list store t.kept t.separator c
 
   -- ---- a leaf that was loaded
 
@@ -153,7 +204,6 @@ module _ (area₀ tickets₀ : List ℕ) where
               ∙ ap (λ (x : List ℕ). digest.overwrite (joined (pages_of t.row) ++ x) area₀) (sym (pages_made (leaves_by from c p)))
               ∙ ap (λ (x : List ℕ). digest.overwrite x area₀) (sym (pages_append t.row ys));
           good = good;
-          waiting_is = g.waiting_is;
           rests = g.rests;
         }
 
@@ -162,14 +212,13 @@ module _ (area₀ tickets₀ : List ℕ) where
   module _ (t : Turned) (c₀ : Option (List ℕ)) (at : RowAt) (list : List Entry) (store area tickets : List ℕ) (w : Written t c₀ at list store area tickets) (z : t.kept ≡ [])
       (x : RowLeaf) (good : Good 4096 x.page) (long : length x.separator ≡ 32) (room : (at.leaves + 1) * 65 ≤ length tickets₀) (leaf : LeafAt) (pages : List ℕ)
       (page_is : page_in leaf pages ≡ x.page) (sep-is : leaf.separator ≡ x.separator) where
-    pub a_copy_is_written : (c : Option (List ℕ)) (r : RowAt) (list' : List Entry) (store' area' tickets' : List ℕ) → CopiedOnly at leaf list store pages area tickets r list' store' area' tickets'
+    pub a_copy_is_written : (c : Option (List ℕ)) (r : RowAt) (list' : List Entry) (store' area' tickets' : List ℕ) → list' ≡ list → store' ≡ store → LeafCopied at leaf pages area tickets r area' tickets'
         → Written (record { number = t.number; row = t.row ++ (x ∷ []); kept = []; separator = t.separator }) c r list' store' area' tickets'
-    a_copy_is_written c r list' store' area' tickets' g =
+    a_copy_is_written c r list' store' area' tickets' list_is store_is k =
         let o = one_leaf_is_linked tickets₀ t.row at.leaves at.last tickets w.linked_to x long (omega (arith, room)) in
-        let k = g.copied in
         let d : linked at.leaves at.last x.separator tickets ≡ tickets' = ap (λ (s : List ℕ). linked at.leaves at.last s tickets) (sym sep-is) ∙ sym k.tickets_are in
         let e : r ≡ copied_by at (separator_at at.leaves x.separator) = k.is ∙ ap (λ (s : List ℕ). copied_by at (separator_at at.leaves s)) sep-is in
-        let clear : (list ≡ replicate (length list) blank) × (store ≡ zeros (length store)) = w.rests.clear z in
+        let clear = nothing_waits _ _ _ _ _ at.waiting w.rests z in
         rw e (record {
           linked_to = rw d at o;
           area_is =
@@ -179,8 +228,7 @@ module _ (area₀ tickets₀ : List ℕ) where
               ∙ put_behind (joined (pages_of t.row)) area₀ (x.page ++ []) (at.leaves * 4096) (pages_long w.good ∙ ap (λ (i : ℕ). i * 4096) (sym w.linked_to.count_is))
               ∙ ap (λ (a : List ℕ). digest.overwrite a area₀) (sym (pages_append t.row (x ∷ [])));
           good = all_append w.good (cons good nil);
-          waiting_is = refl;
-          rests = record { waits = λ n. clash n refl; clear = λ n. rw (g.list_is, g.store_is) clear };
+          rests = (refl, rw list_is clear.0, rw store_is clear.1);
         })
 
 -- ---- a row that is written, with nothing kept
@@ -197,15 +245,27 @@ pub a_row_is_written : (area₀ tickets₀ : List ℕ) (t : Turned) (c : Option 
     → RowWritten (is_from_zero t.row) area₀ tickets₀ at list store area tickets
 a_row_is_written area₀ tickets₀ t c at list store area tickets w e = record {
   leaves_are = w.linked_to.count_is ∙ sym (same_length t.row);
-  list_is = (w.rests.clear e).0;
-  store_is = (w.rests.clear e).1;
+  list_is = (nothing_waits _ _ _ _ _ at.waiting w.rests e).0;
+  store_is = (nothing_waits _ _ _ _ _ at.waiting w.rests e).1;
   area_is = w.area_is ∙ ap (λ (ps : List (List ℕ)). digest.overwrite (joined ps) area₀) (sym (same_pages t.row));
   tickets_are = w.linked_to.tickets_are;
 }
 
 -- ---- the row
 
-module _ (list₀ : List Entry) (store₀ pages : List ℕ) (separators changes : List (List ℕ)) (values area₀ tickets₀ : List ℕ) (h : RowThere list₀ store₀ pages separators changes values area₀ tickets₀) where
+module _ (list₀ : List Entry) (store₀ : List ℕ) (lent : LentRow) (area₀ tickets₀ : List ℕ) (h : RowAsked list₀ store₀ lent area₀ tickets₀) where
+  abbrev pages : List ℕ
+  pages = lent.pages.now
+
+  abbrev separators : List (List ℕ)
+  separators = lent.separators.now
+
+  abbrev changes : List (List ℕ)
+  changes = lent.changes.now
+
+  abbrev values : List ℕ
+  values = lent.values.now
+
   abbrev n : ℕ
   n = length list₀
 
@@ -264,9 +324,9 @@ module _ (list₀ : List Entry) (store₀ pages : List ℕ) (separators changes 
     pub area_long : length area ≡ length area₀
     pub tickets_long : length tickets ≡ length tickets₀
     pub t : Turned
-    pub number_is : at.number ≡ t.number
+    pub accepted : t.number ≡ 0
     pub ends : turns 4096 n m t (drop i row) (left at) ≡ turns 4096 n m (nothing_yet 4096 n m) row edits
-    pub on : t.number ≡ 0 → On t at list store area tickets i
+    pub on : On t at list store area tickets i
 
   pub nothing_stands : (at : RowAt) → at ≡ nothing_at → Stands at list₀ store₀ area₀ tickets₀ 0
   nothing_stands at e = rw e (record {
@@ -276,15 +336,14 @@ module _ (list₀ : List Entry) (store₀ pages : List ℕ) (separators changes 
     area_long = refl;
     tickets_long = refl;
     t = nothing_yet 4096 n m;
-    number_is = refl;
+    accepted = refl;
     ends = refl;
-    on = λ z. record {
+    on = record {
       written = record {
         linked_to = no_leaf_is_linked tickets₀;
         area_is = refl;
         good = nil;
-        waiting_is = refl;
-        rests = record { waits = λ w. clash w refl; clear = λ k. (h.list_clear, h.store_clear) };
+        rests = (refl, h.list_clear, h.store_clear);
       };
       T = [];
       turning = nothing_yet_lem 4096 n m q (pages_of row) (cutoff_by row);
@@ -302,12 +361,9 @@ module _ (list₀ : List Entry) (store₀ pages : List ℕ) (separators changes 
 
   -- ---- leaf i
 
-  module _ (at : RowAt) (list : List Entry) (store area tickets : List ℕ) (i : ℕ) (k : Stands at list store area tickets i) (there_is : i < length separators) (going : at.number ≡ 0) where
-    accepted : k.t.number ≡ 0
-    accepted = sym k.number_is ∙ going
-
+  module _ (at : RowAt) (list : List Entry) (store area tickets : List ℕ) (i : ℕ) (k : Stands at list store area tickets i) (there_is : i < length separators) where
     o : On k.t at list store area tickets i
-    o = k.on accepted
+    o = k.on
 
     abbrev t : Turned
     t = k.t
@@ -327,19 +383,17 @@ module _ (list₀ : List Entry) (store₀ pages : List ℕ) (separators changes 
     abbrev c : Option (List ℕ)
     c = cutoff_by xs
 
-    leaf_is : leaf ≡ record { based = true; from = i * 4096; to = i * 4096 + 4096; cut = ltb (i + 1) (length separators); separator = get_or separators i []; cutoff = next_separator separators i }
+    leaf_is : leaf ≡ record { page = std.Some (i * 4096); separator = get_or separators i []; cutoff = std.slice_get separators (i + 1) }
     leaf_is = rw (leaf_at, lt-leb (length separators) i there_is)
 
     cutoff_is : cutoff_in leaf ≡ c
-    cutoff_is = ap cutoff_in leaf_is ∙ sym (the_cutoff 4096 pages separators i)
+    cutoff_is = ap cutoff_in leaf_is ∙ sym (the_cutoff 4096 pages separators (i + 1))
 
     separator_is : leaf.separator ≡ x.separator
     separator_is = ap (λ (l : LeafAt). l.separator) leaf_is
 
     page_is : page_in leaf pages ≡ x.page
-    page_is =
-        let e : i * 4096 + 4096 - i * 4096 ≡ 4096 = omega arith in
-        ap (λ (l : LeafAt). page_in l pages) leaf_is ∙ ap (λ (j : ℕ). take j (drop (i * 4096) pages)) e
+    page_is = ap (λ (l : LeafAt). page_in l pages) leaf_is
 
     leaf_right : rows.LeafRight 4096 x c
     leaf_right = row_head (rw here_is at (row_behind i passed.row))
@@ -384,9 +438,9 @@ module _ (list₀ : List Entry) (store₀ pages : List ℕ) (separators changes 
 
     loaded_is_as_said : is_loaded at to ≡ (nonempty mine || nonempty t.kept)
     loaded_is_as_said =
-        ap (λ (j : ℕ). ltb at.change j || at.waiting) to_is
-        ∙ ap (λ (b : Bool). b || at.waiting) (some_are_taken c cs vs at.change)
-        ∙ ap (λ (b : Bool). nonempty mine || b) o.written.waiting_is
+        ap (λ (j : ℕ). ltb at.change j || std.is_some at.waiting) to_is
+        ∙ ap (λ (b : Bool). b || std.is_some at.waiting) (some_are_taken c cs vs at.change)
+        ∙ ap (λ (b : Bool). nonempty mine || b) (waits_or_not _ _ _ _ _ at.waiting o.written.rests)
 
     right_mine : EditsRight 4096 mine
     right_mine = record { rising = taken_rising c o.edits_right.rising; fitting = all_taken c o.edits_right.fitting; keyed = all_taken c o.edits_right.keyed }
@@ -396,31 +450,14 @@ module _ (list₀ : List Entry) (store₀ pages : List ℕ) (separators changes 
 
     -- what waits
 
-    waits : nonempty t.kept ≡ true → Waits 4096 at.work list store t.kept t.separator (some x.separator)
-    waits w = subst (Waits 4096 at.work list store t.kept t.separator) cutoff_here (o.written.rests.waits w)
+    rests : Between at.waiting list store (kept_by at list store) (begins_at at leaf) (some leaf.separator)
+    rests = waits_for_it _ _ _ _ _ leaf.separator at.waiting o.written.rests (cutoff_here ∙ ap some (sym separator_is))
 
     kept_is : kept_by at list store ≡ t.kept
-    kept_is = go (nonempty t.kept) refl
-      where
-        go : (b : Bool) → nonempty t.kept ≡ b → kept_by at list store ≡ t.kept
-        go true e = ap (λ (b : Bool). cond b (pending_of at.work list store []) []) (o.written.waiting_is ∙ e) ∙ (waits e).pending_is
-        go false e = ap (λ (b : Bool). cond b (pending_of at.work list store []) []) (o.written.waiting_is ∙ e) ∙ sym (no_element t.kept e)
-
-    separator_of_lem : nonempty t.kept ≡ true → separator_of at.work ≡ t.separator
-    separator_of_lem e = ap (λ (b : Option (List ℕ)). or_else b at.work.latest) (waits e).override
+    kept_is = what_waits _ _ _ _ _ at.waiting o.written.rests
 
     begins_is : begins_at at leaf ≡ cond (nonempty t.kept) t.separator x.separator
-    begins_is = go (nonempty t.kept) refl
-      where
-        go : (b : Bool) → nonempty t.kept ≡ b → begins_at at leaf ≡ cond (nonempty t.kept) t.separator x.separator
-        go true e =
-            ap (λ (b : Bool). cond b (separator_of at.work) leaf.separator) (o.written.waiting_is ∙ e)
-            ∙ separator_of_lem e
-            ∙ sym (ap (λ (b : Bool). cond b t.separator x.separator) e)
-        go false e =
-            ap (λ (b : Bool). cond b (separator_of at.work) leaf.separator) (o.written.waiting_is ∙ e)
-            ∙ separator_is
-            ∙ sym (ap (λ (b : Bool). cond b t.separator x.separator) e)
+    begins_is = begins_at_one _ _ _ _ _ leaf.separator at.waiting o.written.rests ∙ ap (cond (nonempty t.kept) t.separator) separator_is
 
     abbrev P : List Record
     P = changed_all mine (t.kept ++ records x.page)
@@ -455,15 +492,17 @@ module _ (list₀ : List Entry) (store₀ pages : List ℕ) (separators changes 
     values_left : at.value ≤ length values
     values_left = omega (arith, o.values_are, passed.there)
 
+    page_there : PageThere leaf pages
+    page_there = rw leaf_is (record { inside = omega (arith, passed.whole, there_is) })
+
     loads : is_loaded at to ≡ true → LoadThere at leaf list store pages changes to values area tickets
     loads b = record {
       leaf_right = record {
-        from_to = rw leaf_is (omega arith);
-        page_there = rw leaf_is (omega (arith, passed.whole, there_is));
+        page_there = page_there;
         separator_long = rw separator_is x_long;
-        cutoff_long = rw leaf_is next_long;
+        cutoff_long = rw leaf_is (the_next_is_long separators h.keyed (i + 1));
         base = λ e. rw (page_is, separator_is, cutoff_is) (leaf_is_right 4096 q x c leaf_right);
-        bare = λ e. clash (ap (λ (l : LeafAt). l.based) leaf_is) e;
+        bare = λ e. clash (ap std.is_some (sym e ∙ ap (λ (l : LeafAt). l.page) leaf_is)) refl;
       };
       room = rw (k.list_long, k.store_long) passed.room;
       changes_there = omega (arith, to_is);
@@ -473,33 +512,24 @@ module _ (list₀ : List Entry) (store₀ pages : List ℕ) (separators changes 
       right = rw edits_are right_mine;
       above = rw (edits_are, separator_is) above_mine;
       below = rw (edits_are, cutoff_is) (taken_below c (left at));
-      waits = λ e.
-          let w = waits (sym o.written.waiting_is ∙ e) in
-          record { holds = w.holds; waiting = w.waiting; override = w.override ∙ ap some (sym (separator_of_lem (sym o.written.waiting_is ∙ e))); cutoff = w.cutoff ∙ ap some (sym separator_is); pending_is = refl };
-      some_wait = λ e. let w = waits (sym o.written.waiting_is ∙ e) in rw w.pending_is (sym o.written.waiting_is ∙ e);
-      clear = λ e. o.written.rests.clear (no_element t.kept (sym o.written.waiting_is ∙ e));
+      rests = rests;
       area_room = omega (arith, mul-le-mul_right 4096 room_asked, area_room, k.area_long);
       ticket_room = omega (arith, mul-le-mul_right 65 room_asked, ticket_room, k.tickets_long);
     }
-      where
-        next_long : length (next_separator separators i) ≡ 32
-        next_long = elim (dec_lt (i + 1) (length separators)) [
-          | yes l ↦ rw (next_separator, lt-ltb (i + 1) (length separators) l) (one_of h.keyed (i + 1) l)
-          | no l ↦ rw (next_separator, le-ltb (i + 1) (length separators) (omega (arith, l)))
-        ]
 
     copies : is_loaded at to ≡ false → length area < 18446744073709551616 → CopyThere at leaf pages area tickets
     copies b a = record {
-      from_to = rw leaf_is (omega arith);
-      page_long = rw leaf_is (omega arith);
-      page_there = rw leaf_is (omega (arith, passed.whole, there_is));
+      page_there = page_there;
       area_room = omega (arith, mul-le-mul_right 4096 one_more_fits, area_room, leaves_are, k.area_long);
       ticket_room = omega (arith, mul-le-mul_right 65 one_more_fits, ticket_room, leaves_are, k.tickets_long);
       fits = omega (arith, mul-le-mul_right 4096 one_more_fits, area_room, leaves_are, k.area_long, a);
     }
 
-    pub the_turn_is_there : length area < 18446744073709551616 → TurnThere at i list store pages separators changes values area tickets
-    the_turn_is_there a = record { few = passed.few; change_in = o.change_in; loads = loads; copies = λ b. copies b a }
+    pub the_turn_begins : (length separators ≤ 16) × (at.change ≤ length changes)
+    the_turn_begins = (passed.few, o.change_in)
+
+    pub the_turn_is_there : length area < 18446744073709551616 → (u : Turn) → u ≡ turn_by at separators changes i → TurnThere u list store lent area tickets
+    the_turn_is_there a u e = rw e (record { loads = loads; copies = λ b. copies b a })
 
     -- ---- what its turn leaves
 
@@ -507,13 +537,7 @@ module _ (list₀ : List Entry) (store₀ pages : List ℕ) (separators changes 
     begin = cond (nonempty t.kept) t.separator x.separator
 
     from_long : length begin ≡ 32
-    from_long = go (nonempty t.kept) refl
-      where
-        go : (b : Bool) → nonempty t.kept ≡ b → length (cond b t.separator x.separator) ≡ 32
-        go true e =
-            let w = waits e in
-            rw (← (key_is_there (is_set at.work.over) at.work.overriding t.separator w.override).1) w.holds.keys.overriding
-        go false e = x_long
+    from_long = begins_long _ _ _ _ _ x.separator at.waiting o.written.rests x_long
 
     abbrev t' : Turned
     t' = turn 4096 n m t x c mine
@@ -558,7 +582,7 @@ module _ (list₀ : List Entry) (store₀ pages : List ℕ) (separators changes 
     ends_after : (es : List Edit) → (t'.number ≡ 0 → es ≡ later) → turns 4096 n m t' xs es ≡ turns 4096 n m (nothing_yet 4096 n m) row edits
     ends_after es f =
         go (eqb t'.number 0) refl
-        ∙ sym (rw (eq-eqb t.number 0 accepted, turns) refl)
+        ∙ sym (rw (eq-eqb t.number 0 k.accepted, turns) refl)
         ∙ ap (λ (ys : List RowLeaf). turns 4096 n m t ys (left at)) (sym here_is)
         ∙ k.ends
       where
@@ -566,86 +590,37 @@ module _ (list₀ : List Entry) (store₀ pages : List ℕ) (separators changes 
         go true e = ap (turns 4096 n m t' xs) (f (eqb-true t'.number 0 e))
         go false e = refused_stays 4096 n m q t' xs es e ∙ sym (refused_stays 4096 n m q t' xs later e)
 
-    module _ (r : RowAt) (list' : List Entry) (store' area' tickets' : List ℕ) (g : LeafTurned at i list store pages separators changes values area tickets r list' store' area' tickets') where
-      -- ---- loaded
+    -- ---- the leaf's turn
+
+    module _ (u : Turn) (eu : u ≡ turn_by at separators changes i) (r : Result RowAt Refusal) (list' : List Entry) (store' area' tickets' : List ℕ)
+        (g₀ : LeafTurned u list store lent area tickets r list' store' area' tickets') where
+      g : LeafTurned (turn_by at separators changes i) list store lent area tickets r list' store' area' tickets'
+      g = subst (λ (y : Turn). LeafTurned y list store lent area tickets r list' store' area' tickets') eu g₀
+
+      abbrev verdict : ℕ
+      verdict = load_verdict n m t.kept (records x.page) mine
 
       module _ (b : is_loaded at to ≡ true) where
-        l : LeafLoaded at leaf list store pages changes to values area tickets r list' store' area' tickets'
-        l = g.loaded b
-
-        abbrev verdict : ℕ
-        verdict = load_verdict n m t.kept (records x.page) mine
-
         loaded_turn : t' ≡ loaded 4096 n m t x.separator c (records x.page) mine
         loaded_turn = rw (turn, sym loaded_is_as_said ∙ b)
 
-        number_of : (loaded 4096 n m t x.separator c (records x.page) mine).number ≡ verdict
-        number_of = go (eqb verdict 0) refl
+        verdict_is : (loaded 4096 n m t x.separator c (records x.page) mine).number ≡ verdict
+        verdict_is = go (eqb verdict 0) refl
           where
             go : (y : Bool) → eqb verdict 0 ≡ y → (loaded 4096 n m t x.separator c (records x.page) mine).number ≡ verdict
             go true e = rw (loaded, e) (sym (eqb-true verdict 0 e))
             go false e = rw (loaded, e)
 
-        loaded_number : r.number ≡ t'.number
+        loaded_number : number_of r ≡ t'.number
         loaded_number =
-            l.number_is
+            (g.loaded b).number_is
             ∙ ap (λ (j : ℕ). load_verdict j (length store) (kept_by at list store) (records (page_in leaf pages)) (edits_in at changes to values)) k.list_long
             ∙ ap (λ (j : ℕ). load_verdict n j (kept_by at list store) (records (page_in leaf pages)) (edits_in at changes to values)) k.store_long
             ∙ ap (λ (rs : List Record). load_verdict n m rs (records (page_in leaf pages)) (edits_in at changes to values)) kept_is
             ∙ ap (λ (p : List ℕ). load_verdict n m t.kept (records p) (edits_in at changes to values)) page_is
             ∙ ap (load_verdict n m t.kept (records x.page)) edits_are
-            ∙ sym number_of
+            ∙ sym verdict_is
             ∙ ap (λ (y : Turned). y.number) (sym loaded_turn)
-
-        module _ (z : t'.number ≡ 0) where
-          abbrev digested_here : Turned
-          digested_here = digested_to 4096 n m t.row begin c P
-
-          done_is : t' ≡ digested_here
-          done_is = loaded_turn ∙ loaded_is 4096 n m q t x.separator c (records x.page) mine (ap (λ (y : Turned). y.number) (sym loaded_turn) ∙ z)
-
-          given : LeavesGiven at begin c P to (at.value + values_length (changes_in at changes to)) area tickets r list' store' area' tickets'
-          given =
-              subst (λ (y : List ℕ). LeavesGiven at y c P to (at.value + values_length (changes_in at changes to)) area tickets r list' store' area' tickets') begins_is
-              (subst (λ (y : Option (List ℕ)). LeavesGiven at (begins_at at leaf) y P to (at.value + values_length (changes_in at changes to)) area tickets r list' store' area' tickets') cutoff_is
-              (subst (λ (y : List Record). LeavesGiven at (begins_at at leaf) (cutoff_in leaf) y to (at.value + values_length (changes_in at changes to)) area tickets r list' store' area' tickets') pending_is
-              (l.given (loaded_number ∙ z))))
-
-          few_leaves : length digested_here.row ≤ pages_asked 4096 B
-          few_leaves =
-              a_digest_gives_no_more_than_asked 4096 n m q even B t (records x.page) (2 * merge_below 4096) (leaf_body 4096 n m q even x leaf_right.good) (proper 4096 n m q even x leaf_right.good).fitting xs mine later
-              (all_taken c o.edits_right.fitting) o.turning.fitting used begin c
-
-          leaves_room : (at.leaves + length (plan 4096 c P).leaves) * 65 ≤ length tickets₀
-          leaves_room =
-              let p = plan 4096 c P in
-              let a : length digested_here.row ≡ length t.row + length (map (made 4096) (leaves_by begin c p)) = length-append t.row (map (made 4096) (leaves_by begin c p)) in
-              let d : length (map (made 4096) (leaves_by begin c p)) ≡ length p.leaves = count_leaves 4096 n m q even begin c (nonempty p.left) p.leaves p.left in
-              let f : at.leaves + length p.leaves ≤ pages_asked 4096 B = omega (arith, few_leaves, a, d, leaves_are) in
-              le_trans (mul-le-mul_right 65 f) ticket_room
-
-          change_is : r.change ≡ at.change + count_below c cs
-          change_is = given.change_is ∙ to_is
-
-          value_is : r.value ≡ at.value + values_length (take (count_below c cs) cs)
-          value_is = given.value_is ∙ ap (λ (ys : List (List ℕ)). at.value + values_length ys) changes_are
-
-          loaded_on : On t' r list' store' area' tickets' (i + 1)
-          loaded_on = record {
-            written = rw done_is (a_load_is_written area₀ tickets₀ n m t at list store area tickets none (cutoff_by (drop i row)) o.written x.separator c P to (at.value + values_length (changes_in at changes to)) from_long
-                (subst (λ (y : Turned). All (λ u. Good 4096 u.page) y.row) done_is (turning_after z).good) leaves_room r list' store' area' tickets' given);
-            T = changed_all mine (o.T ++ records x.page);
-            turning = turning_after z;
-            within = λ y ys e. subst (Within 4096 B t' (y ∷ ys)) (sym (left_is r change_is value_is)) (rw (done_is, ← e)
-                (a_digest_stays_within 4096 n m q even B t (records x.page) (2 * merge_below 4096) (leaf_body 4096 n m q even x leaf_right.good) (proper 4096 n m q even x leaf_right.good).fitting xs mine later
-                (all_taken c o.edits_right.fitting) o.turning.fitting used begin c y.separator (ap cutoff_by e)));
-            change_in = change_after r change_is value_is;
-            values_are = values_after r change_is value_is;
-            edits_right = rw (left_is r change_is value_is) right_later;
-            above = λ s e. rw (left_is r change_is value_is) (above_later s e);
-          }
-
-      -- ---- copied
 
       module _ (b : is_loaded at to ≡ false) where
         quiet : (nonempty mine ≡ false) × (nonempty t.kept ≡ false)
@@ -660,22 +635,115 @@ module _ (list₀ : List Entry) (store₀ pages : List ℕ) (separators changes 
         copied_turn : t' ≡ copied
         copied_turn = rw (turn, sym loaded_is_as_said ∙ b)
 
-        only : CopiedOnly at leaf list store pages area tickets r list' store' area' tickets'
-        only = g.copied b
+        copied_number : number_of r ≡ t'.number
+        copied_number = (g.copied b).accepted ∙ sym k.accepted ∙ ap (λ (y : Turned). y.number) (sym copied_turn)
 
-        copied_number : r.number ≡ t'.number
-        copied_number = ap (λ (y : RowAt). y.number) only.copied.is ∙ sym accepted ∙ ap (λ (y : Turned). y.number) (sym copied_turn)
+      turned_number : number_of r ≡ t'.number
+      turned_number = go (is_loaded at to) refl
+        where
+          go : (b : Bool) → is_loaded at to ≡ b → number_of r ≡ t'.number
+          go true b = loaded_number b
+          go false b = copied_number b
+
+    -- ---- refused: the row comes to the same number
+
+    pub a_refused_leaf_ends_the_row : (u : Turn) → u ≡ turn_by at separators changes i → (f : Refusal) (list' : List Entry) (store' area' tickets' : List ℕ) → LeafTurned u list store lent area tickets (Err f) list' store' area' tickets'
+        → RowTurned list₀ store₀ pages separators changes values area₀ tickets₀ (Err f) list' store' area' tickets'
+    a_refused_leaf_ends_the_row u eu f list' store' area' tickets' g =
+        let v = turned_number u eu (Err f) list' store' area' tickets' g in
+        let z : eqb t'.number 0 ≡ false = ne_eqb t'.number 0 (λ (y : t'.number ≡ 0). refused f (v ∙ y)) in
+        record {
+          number_is = v ∙ ap (λ (y : Turned). y.number) (sym (refused_stays 4096 n m q t' xs later z) ∙ ends_after later (λ y. refl));
+          written = tt;
+        }
+
+    -- ---- accepted
+
+    module _ (u : Turn) (eu : u ≡ turn_by at separators changes i) (r : RowAt) (list' : List Entry) (store' area' tickets' : List ℕ)
+        (g₀ : LeafTurned u list store lent area tickets (Ok r) list' store' area' tickets') where
+      abbrev turned : LeafTurned (turn_by at separators changes i) list store lent area tickets (Ok r) list' store' area' tickets'
+      turned = g u eu (Ok r) list' store' area' tickets' g₀
+
+      z : t'.number ≡ 0
+      z = sym (turned_number u eu (Ok r) list' store' area' tickets' g₀)
+
+      -- ---- loaded
+
+      module _ (b : is_loaded at to ≡ true) where
+        abbrev digested_here : Turned
+        digested_here = digested_to 4096 n m t.row begin c P
+
+        done_is : t' ≡ digested_here
+        done_is =
+            let e = loaded_turn u eu (Ok r) list' store' area' tickets' g₀ b in
+            e ∙ loaded_is 4096 n m q t x.separator c (records x.page) mine (ap (λ (y : Turned). y.number) (sym e) ∙ z)
+
+        given : LeavesGiven at begin c P to (at.value + values_length (changes_in at changes to)) area tickets r list' store' area' tickets'
+        given =
+            subst (λ (y : List ℕ). LeavesGiven at y c P to (at.value + values_length (changes_in at changes to)) area tickets r list' store' area' tickets') begins_is
+            (subst (λ (y : Option (List ℕ)). LeavesGiven at (begins_at at leaf) y P to (at.value + values_length (changes_in at changes to)) area tickets r list' store' area' tickets') cutoff_is
+            (subst (λ (y : List Record). LeavesGiven at (begins_at at leaf) (cutoff_in leaf) y to (at.value + values_length (changes_in at changes to)) area tickets r list' store' area' tickets') pending_is
+            (turned.loaded b).given))
+
+        few_leaves : length digested_here.row ≤ pages_asked 4096 B
+        few_leaves =
+            a_digest_gives_no_more_than_asked 4096 n m q even B t (records x.page) (2 * merge_below 4096) (leaf_body 4096 n m q even x leaf_right.good) (proper 4096 n m q even x leaf_right.good).fitting xs mine later
+            (all_taken c o.edits_right.fitting) o.turning.fitting used begin c
+
+        leaves_room : (at.leaves + length (plan 4096 c P).leaves) * 65 ≤ length tickets₀
+        leaves_room =
+            let p = plan 4096 c P in
+            let a : length digested_here.row ≡ length t.row + length (map (made 4096) (leaves_by begin c p)) = length-append t.row (map (made 4096) (leaves_by begin c p)) in
+            let d : length (map (made 4096) (leaves_by begin c p)) ≡ length p.leaves = count_leaves 4096 n m q even begin c (nonempty p.left) p.leaves p.left in
+            let f : at.leaves + length p.leaves ≤ pages_asked 4096 B = omega (arith, few_leaves, a, d, leaves_are) in
+            le_trans (mul-le-mul_right 65 f) ticket_room
+
+        change_is : r.change ≡ at.change + count_below c cs
+        change_is = given.change_is ∙ to_is
+
+        value_is : r.value ≡ at.value + values_length (take (count_below c cs) cs)
+        value_is = given.value_is ∙ ap (λ (ys : List (List ℕ)). at.value + values_length ys) changes_are
+
+        loaded_on : On t' r list' store' area' tickets' (i + 1)
+        loaded_on = record {
+          written = rw done_is (a_load_is_written area₀ tickets₀ n m t at list store area tickets none (cutoff_by (drop i row)) o.written x.separator c P to (at.value + values_length (changes_in at changes to)) from_long
+              (subst (λ (y : Turned). All (λ u. Good 4096 u.page) y.row) done_is (turning_after z).good) leaves_room r list' store' area' tickets' given);
+          T = changed_all mine (o.T ++ records x.page);
+          turning = turning_after z;
+          within = λ y ys e. subst (Within 4096 B t' (y ∷ ys)) (sym (left_is r change_is value_is)) (rw (done_is, ← e)
+              (a_digest_stays_within 4096 n m q even B t (records x.page) (2 * merge_below 4096) (leaf_body 4096 n m q even x leaf_right.good) (proper 4096 n m q even x leaf_right.good).fitting xs mine later
+              (all_taken c o.edits_right.fitting) o.turning.fitting used begin c y.separator (ap cutoff_by e)));
+          change_in = change_after r change_is value_is;
+          values_are = values_after r change_is value_is;
+          edits_right = rw (left_is r change_is value_is) right_later;
+          above = λ s e. rw (left_is r change_is value_is) (above_later s e);
+        }
+
+      -- ---- copied
+
+      module _ (b : is_loaded at to ≡ false) where
+        only : LeafCopied at leaf pages area tickets r area' tickets'
+        only = (turned.copied b).copied
+
+        abbrev copy : Turned
+        copy = copied u eu (Ok r) list' store' area' tickets' g₀ b
+
+        copy_is : t' ≡ copy
+        copy_is = copied_turn u eu (Ok r) list' store' area' tickets' g₀ b
+
+        nothing_kept : t.kept ≡ []
+        nothing_kept = none_kept u eu (Ok r) list' store' area' tickets' g₀ b
 
         none_taken : count_below c cs ≡ 0
         none_taken =
-            let f : ltb at.change (at.change + count_below c cs) ≡ false = some_are_taken c cs vs at.change ∙ quiet.0 in
+            let f : ltb at.change (at.change + count_below c cs) ≡ false = some_are_taken c cs vs at.change ∙ (quiet u eu (Ok r) list' store' area' tickets' g₀ b).0 in
             omega (arith, ltb-false at.change (at.change + count_below c cs) f)
 
         copied_change : r.change ≡ at.change + count_below c cs
-        copied_change = ap (λ (y : RowAt). y.change) only.copied.is ∙ omega (arith, none_taken)
+        copied_change = ap (λ (y : RowAt). y.change) only.is ∙ omega (arith, none_taken)
 
         copied_value : r.value ≡ at.value + values_length (take (count_below c cs) cs)
-        copied_value = ap (λ (y : RowAt). y.value) only.copied.is ∙ omega (arith, ap (λ (j : ℕ). values_length (take j cs)) none_taken)
+        copied_value = ap (λ (y : RowAt). y.value) only.is ∙ omega (arith, ap (λ (j : ℕ). values_length (take j cs)) none_taken)
 
         later_is : later ≡ left at
         later_is = sym (left_is at (omega (arith, none_taken)) (omega (arith, ap (λ (j : ℕ). values_length (take j cs)) none_taken)))
@@ -683,15 +751,16 @@ module _ (list₀ : List Entry) (store₀ pages : List ℕ) (separators changes 
         room_for_it : (at.leaves + 1) * 65 ≤ length tickets₀
         room_for_it = omega (arith, mul-le-mul_right 65 one_more_fits, ticket_room, leaves_are)
 
-        copied_within : Within 4096 B copied xs later
-        copied_within = subst (Within 4096 B copied xs) (sym later_is) (a_copy_stays_within 4096 n m q even B t x xs (left at) (o.within x xs here_is) none_kept)
+        copied_within : Within 4096 B copy xs later
+        copied_within = subst (Within 4096 B copy xs) (sym later_is) (a_copy_stays_within 4096 n m q even B t x xs (left at) (o.within x xs here_is) nothing_kept)
 
-        copied_on : t'.number ≡ 0 → On t' r list' store' area' tickets' (i + 1)
-        copied_on z = record {
-          written = rw copied_turn (a_copy_is_written area₀ tickets₀ t (cutoff_by (drop i row)) at list store area tickets o.written none_kept x leaf_right.good x_long room_for_it leaf pages page_is separator_is c r list' store' area' tickets' only);
+        copied_on : On t' r list' store' area' tickets' (i + 1)
+        copied_on = record {
+          written = rw copy_is (a_copy_is_written area₀ tickets₀ t (cutoff_by (drop i row)) at list store area tickets o.written nothing_kept x leaf_right.good x_long room_for_it leaf pages page_is separator_is c r list' store' area' tickets'
+              (turned.copied b).list_is (turned.copied b).store_is only);
           T = changed_all mine (o.T ++ records x.page);
           turning = turning_after z;
-          within = λ y ys e. subst (Within 4096 B t' (y ∷ ys)) (sym (left_is r copied_change copied_value)) (rw (copied_turn, ← e) copied_within);
+          within = λ y ys e. subst (Within 4096 B t' (y ∷ ys)) (sym (left_is r copied_change copied_value)) (rw (copy_is, ← e) copied_within);
           change_in = change_after r copied_change copied_value;
           values_are = values_after r copied_change copied_value;
           edits_right = rw (left_is r copied_change copied_value) right_later;
@@ -701,58 +770,40 @@ module _ (list₀ : List Entry) (store₀ pages : List ℕ) (separators changes 
       -- ---- either
 
       record After : Type 0 where
-        number_is : r.number ≡ t'.number
-        on : t'.number ≡ 0 → On t' r list' store' area' tickets' (i + 1)
-        left_after : t'.number ≡ 0 → left r ≡ later
+        on : On t' r list' store' area' tickets' (i + 1)
+        left_after : left r ≡ later
 
       after : After
       after = go (is_loaded at to) refl
         where
           go : (b : Bool) → is_loaded at to ≡ b → After
-          go true b = record { number_is = loaded_number b; on = loaded_on b; left_after = λ z. left_is r (change_is b z) (value_is b z) }
-          go false b = record { number_is = copied_number b; on = copied_on b; left_after = λ z. left_is r (copied_change b) (copied_value b) }
+          go true b = record { on = loaded_on b; left_after = left_is r (change_is b) (value_is b) }
+          go false b = record { on = copied_on b; left_after = left_is r (copied_change b) (copied_value b) }
 
       pub one_leaf_more : Stands r list' store' area' tickets' (i + 1)
       one_leaf_more = record {
         in_row = omega (arith, there_is);
-        list_long = g.list_long ∙ k.list_long;
-        store_long = g.store_long ∙ k.store_long;
-        area_long = g.area_long ∙ k.area_long;
-        tickets_long = g.tickets_long ∙ k.tickets_long;
+        list_long = turned.list_long ∙ k.list_long;
+        store_long = turned.store_long ∙ k.store_long;
+        area_long = turned.area_long ∙ k.area_long;
+        tickets_long = turned.tickets_long ∙ k.tickets_long;
         t = t';
-        number_is = after.number_is;
-        ends = ends_after (left r) after.left_after;
+        accepted = z;
+        ends = ends_after (left r) (λ y. after.left_after);
         on = after.on;
       }
 
   -- ---- the last leaf was taken
 
-  module _ (at : RowAt) (list : List Entry) (store area tickets : List ℕ) (i : ℕ) (k : Stands at list store area tickets i) (past : at.number ≡ 0 → length separators ≤ i) where
-    module _ (z : at.number ≡ 0) where
-      at_the_end : i ≡ length separators
-      at_the_end = omega (arith, past z, k.in_row)
+  module _ (at : RowAt) (list : List Entry) (store area tickets : List ℕ) (i : ℕ) (k : Stands at list store area tickets i) (past : length separators ≤ i) where
+    none_left : drop i row ≡ []
+    none_left = let e : i ≡ length separators = omega (arith, past, k.in_row) in ap (λ (j : ℕ). drop j row) (e ∙ sym (row_length 4096 pages separators)) ∙ drop-length row
 
-      none_left : drop i row ≡ []
-      none_left = ap (λ (j : ℕ). drop j row) (at_the_end ∙ sym (row_length 4096 pages separators)) ∙ drop-length row
+    whole_is : k.t ≡ turns 4096 n m (nothing_yet 4096 n m) row edits
+    whole_is = sym (ap (λ (ys : List RowLeaf). turns 4096 n m k.t ys (left at)) none_left) ∙ k.ends
 
-      whole_is : k.t ≡ turns 4096 n m (nothing_yet 4096 n m) row edits
-      whole_is = sym (ap (λ (ys : List RowLeaf). turns 4096 n m k.t ys (left at)) none_left) ∙ k.ends
-
-    whole_number : at.number ≡ (turns 4096 n m (nothing_yet 4096 n m) row edits).number
-    whole_number = go (eqb at.number 0) refl
-      where
-        go : (b : Bool) → eqb at.number 0 ≡ b → at.number ≡ (turns 4096 n m (nothing_yet 4096 n m) row edits).number
-        go true e = k.number_is ∙ ap (λ (y : Turned). y.number) (whole_is (eqb-true at.number 0 e))
-        go false e =
-            let f : eqb k.t.number 0 ≡ false = ap (λ (j : ℕ). eqb j 0) (sym k.number_is) ∙ e in
-            k.number_is ∙ ap (λ (y : Turned). y.number) (sym (refused_stays 4096 n m q k.t (drop i row) (left at) f) ∙ k.ends)
-
-    pub the_row_is_turned : RowTurned list₀ store₀ pages separators changes values area₀ tickets₀ at list store area tickets
-    the_row_is_turned = record {
-      number_is = whole_number;
-      written = λ y.
-          let z : at.number ≡ 0 = whole_number ∙ y in
-          let o = k.on (sym k.number_is ∙ z) in
-          let e : k.t.kept ≡ [] = o.turning.merges (ap cutoff_by (none_left z)) in
-          subst (λ (u : Turned). RowWritten (is_from_zero u.row) area₀ tickets₀ at list store area tickets) (whole_is z) (a_row_is_written area₀ tickets₀ k.t (cutoff_by (drop i row)) at list store area tickets o.written e);
-    }
+    pub the_row_is_turned : RowTurned list₀ store₀ pages separators changes values area₀ tickets₀ (Ok at) list store area tickets
+    the_row_is_turned = rw (← whole_is) (record {
+      number_is = sym k.accepted;
+      written = a_row_is_written area₀ tickets₀ k.t (cutoff_by (drop i row)) at list store area tickets k.on.written (k.on.turning.merges (ap cutoff_by none_left));
+    })

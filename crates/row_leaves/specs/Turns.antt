@@ -1,5 +1,7 @@
 -- Document 02, M-101: the turns of a row, leaf after leaf, by the definitions of `row_turns`.
-use Rattle.std.specs.Prelude.{◌≡◌, true, false, List, ℕ, ◌≤◌, length, replicate}
+use Rattle.std.specs.Prelude.{◌≡◌, true, false, List, ℕ, length, replicate, None, Result, IfOk}
+use Rattle.refusal.specs.declared.Refusal.{Refusal}
+use Rattle.refusal.specs.Numbers.{number_of}
 use Rattle.bit_ops.specs.Steps.{zeros}
 use Rattle.leaf_node.specs.Ticket.{packed_all}
 use Rattle.leaf_node.specs.Fits.{All}
@@ -7,39 +9,40 @@ use Rattle.leaf_model.specs.Basics.{joined}
 use Rattle.leaf_model.specs.Work.{zero_key}
 use Rattle.leaf_work.specs.declared.Entry.{Entry}
 use Rattle.leaf_work.specs.Lent.{blank}
-use Rattle.leaf_work.specs.Outcome.{fresh_work}
 use Rattle.leaf_work.specs.Digest.{overwrite}
 use Rattle.row_turns.specs.Row.{RowLeaf, is_from_zero, row_tickets, pages_of}
 use Rattle.row_turns.specs.Turns.{Turned, nothing_yet, turns}
 use Rattle.row_changes.specs.Packed.{edits_of}
 use Rattle.row_check.specs.Verdict.{row_of, row_verdict}
-use Rattle.row_leaf.specs.declared.LeafAt.{LeafAt}
+use Rattle.row_leaf.specs.declared.LentRow.{LentRow}
 use Rattle.row_leaf.specs.declared.RowAt.{RowAt}
+use Rattle.row_leaf.specs.declared.Turn.{Turn}
 use Rattle.row_leaf.specs.Leaf.{leaf_at, changes_end, is_loaded, CopyThere, LeafCopied}
-use Rattle.row_leaf.specs.Load.{LoadThere, LeafLoaded}
+use Rattle.row_leaf.specs.Load.{LoadAsked, LoadGiven}
 
 -- ---- one leaf
 
 abbrev pub to_by : RowAt → ℕ → List (List ℕ) → List (List ℕ) → ℕ
 to_by at i separators changes = changes_end changes at.change (leaf_at separators i)
 
-pub record TurnThere (at : RowAt) (i : ℕ) (list : List Entry) (store pages : List ℕ) (separators changes : List (List ℕ)) (values area tickets : List ℕ) : Type 0 where
-  pub few : length separators ≤ 16
-  pub change_in : at.change ≤ length changes
-  pub loads : is_loaded at (to_by at i separators changes) ≡ true → LoadThere at (leaf_at separators i) list store pages changes (to_by at i separators changes) values area tickets
-  pub copies : is_loaded at (to_by at i separators changes) ≡ false → CopyThere at (leaf_at separators i) pages area tickets
+abbrev pub turn_by : RowAt → List (List ℕ) → List (List ℕ) → ℕ → Turn
+turn_by at separators changes i = record { at = at; leaf = leaf_at separators i; to = to_by at i separators changes }
 
--- a copy leaves list and store as they were
-pub record CopiedOnly (at : RowAt) (leaf : LeafAt) (list : List Entry) (store pages area tickets : List ℕ) (r : RowAt) (list' : List Entry) (store' area' tickets' : List ℕ) : Type 0 where
-  pub copied : LeafCopied at leaf pages area tickets r area' tickets'
+pub record TurnThere (t : Turn) (list : List Entry) (store : List ℕ) (lent : LentRow) (area tickets : List ℕ) : Type 0 where
+  pub loads : is_loaded t.at t.to ≡ true → LoadAsked t list store lent area tickets
+  pub copies : is_loaded t.at t.to ≡ false → CopyThere t.at t.leaf lent.pages.now area tickets
+
+-- a copy is never refused, and leaves list and store as they were
+pub record CopiedOnly (t : Turn) (list : List Entry) (store : List ℕ) (lent : LentRow) (area tickets : List ℕ) (r : Result RowAt Refusal) (list' : List Entry) (store' area' tickets' : List ℕ) : Type 0 where
+  pub accepted : number_of r ≡ 0
+  pub copied : IfOk r (λ x. LeafCopied t.at t.leaf lent.pages.now area tickets x area' tickets')
   pub list_is : list' ≡ list
   pub store_is : store' ≡ store
 
 -- "Load only leaves whose range takes a change's key, or that a merge asks for. Others are copied over with their separators."
-pub record LeafTurned (at : RowAt) (i : ℕ) (list : List Entry) (store pages : List ℕ) (separators changes : List (List ℕ)) (values area tickets : List ℕ) (r : RowAt) (list' : List Entry) (store' area' tickets' : List ℕ) : Type 0 where
-  pub loaded : is_loaded at (to_by at i separators changes) ≡ true
-      → LeafLoaded at (leaf_at separators i) list store pages changes (to_by at i separators changes) values area tickets r list' store' area' tickets'
-  pub copied : is_loaded at (to_by at i separators changes) ≡ false → CopiedOnly at (leaf_at separators i) list store pages area tickets r list' store' area' tickets'
+pub record LeafTurned (t : Turn) (list : List Entry) (store : List ℕ) (lent : LentRow) (area tickets : List ℕ) (r : Result RowAt Refusal) (list' : List Entry) (store' area' tickets' : List ℕ) : Type 0 where
+  pub loaded : is_loaded t.at t.to ≡ true → LoadGiven t list store lent area tickets r list' store' area' tickets'
+  pub copied : is_loaded t.at t.to ≡ false → CopiedOnly t list store lent area tickets r list' store' area' tickets'
   pub list_long : length list' ≡ length list
   pub store_long : length store' ≡ length store
   pub area_long : length area' ≡ length area
@@ -48,7 +51,7 @@ pub record LeafTurned (at : RowAt) (i : ℕ) (list : List Entry) (store pages : 
 -- ---- leaf after leaf
 
 abbrev pub nothing_at : RowAt
-nothing_at = record { number = 0; leaves = 0; last = zero_key; change = 0; value = 0; waiting = false; work = fresh_work false false zero_key false zero_key }
+nothing_at = record { leaves = 0; last = zero_key; change = 0; value = 0; waiting = None }
 
 -- a row that passed, with list and store cleared; keys have 32 bytes, changes 40
 pub record RowThere (list : List Entry) (store pages : List ℕ) (separators changes : List (List ℕ)) (values area tickets : List ℕ) : Type 0 where
@@ -66,12 +69,19 @@ pub record RowWritten (row : List RowLeaf) (area tickets : List ℕ) (r : RowAt)
   pub area_is : area' ≡ overwrite (joined (pages_of row)) area
   pub tickets_are : tickets' ≡ overwrite (packed_all (row_tickets row)) tickets
 
-module _ (list : List Entry) (store pages : List ℕ) (separators changes : List (List ℕ)) (values area tickets : List ℕ) where
-  -- of a row by the turns t that it came to
-  pub record TurnedTo (t : Turned) (r : RowAt) (list' : List Entry) (store' area' tickets' : List ℕ) : Type 0 where
-    pub number_is : r.number ≡ t.number
-    pub written : t.number ≡ 0 → RowWritten (is_from_zero t.row) area tickets r list' store' area' tickets'
+-- of a row by the turns t that it came to
+pub record TurnedTo (area tickets : List ℕ) (t : Turned) (r : Result RowAt Refusal) (list' : List Entry) (store' area' tickets' : List ℕ) : Type 0 where
+  pub number_is : number_of r ≡ t.number
+  pub written : IfOk r (λ x. RowWritten (is_from_zero t.row) area tickets x list' store' area' tickets')
 
-  abbrev pub RowTurned : RowAt → List Entry → List ℕ → List ℕ → List ℕ → Type 0
+module _ (list : List Entry) (store pages : List ℕ) (separators changes : List (List ℕ)) (values area tickets : List ℕ) where
+  abbrev pub RowTurned : Result RowAt Refusal → List Entry → List ℕ → List ℕ → List ℕ → Type 0
   RowTurned r list' store' area' tickets' =
-      TurnedTo (turns 4096 (length list) (length store) (nothing_yet 4096 (length list) (length store)) (row_of 4096 pages separators) (edits_of changes values)) r list' store' area' tickets'
+      TurnedTo area tickets (turns 4096 (length list) (length store) (nothing_yet 4096 (length list) (length store)) (row_of 4096 pages separators) (edits_of changes values)) r list' store' area' tickets'
+
+-- the same by what a row call only reads
+abbrev pub RowAsked : List Entry → List ℕ → LentRow → List ℕ → List ℕ → Type 0
+RowAsked list store lent area tickets = RowThere list store lent.pages.now lent.separators.now lent.changes.now lent.values.now area tickets
+
+abbrev pub RowGiven : List Entry → List ℕ → LentRow → List ℕ → List ℕ → Result RowAt Refusal → List Entry → List ℕ → List ℕ → List ℕ → Type 0
+RowGiven list store lent area tickets = RowTurned list store lent.pages.now lent.separators.now lent.changes.now lent.values.now area tickets

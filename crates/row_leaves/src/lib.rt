@@ -2,43 +2,44 @@
 // Ported from nomt/src/beatree/ops/update/leaf_stage.rs of thrumdev/nomt: `run_worker`.
 #![tactic(auto)]
 
-ghost use Rattle.std.specs.Prelude.{◌≡◌};
-ghost use Rattle.row_leaves.specs.Turns.{nothing_at, TurnThere, LeafTurned, RowThere, RowTurned};
+ghost use Rattle.std.specs.Prelude.{◌≡◌, ◌≤◌, length};
+ghost use Rattle.row_leaves.specs.Turns.{nothing_at, turn_by, TurnThere, LeafTurned, RowAsked, RowGiven};
 
-use leaf_open::fresh_work;
 use leaf_work::Entry;
-use row_leaf::{RowAt, changes_end, copy_leaf, is_loaded, leaf_at, load_leaf};
+use refusal::Refusal;
+use row_leaf::{LentRow, RowAt, Turn, changes_end, copy_leaf, is_loaded, leaf_at, load_leaf};
 
 // ---- one leaf
 
-// Leaf i: loaded where it takes a change or a merge asks for it, else copied.
+// The turn of leaf i, where the turns before it have come so far.
+fn turn_at(at: RowAt, lent: LentRow, i: usize) -> Turn
+    requires { (length lent.separators.now ≤ 16) × (at.change ≤ length lent.changes.now) }
+    ensures { result ≡ turn_by at lent.entry.separators.now lent.entry.changes.now i }
+{
+    let leaf = leaf_at(lent.separators, i);
+    Turn {
+        at,
+        leaf,
+        to: changes_end(lent.changes, at.change, leaf),
+    }
+}
+
+// A leaf's turn: it is loaded where it takes a change or a merge asks for it, else copied.
 fn turn(
-    at: RowAt,
-    i: usize,
+    t: Turn,
     list: &mut [Entry],
     store: &mut [u8],
-    pages: &[u8],
-    separators: &[[u8; 32]],
-    changes: &[[u8; 40]],
-    values: &[u8],
+    lent: LentRow,
     area: &mut [u8],
     tickets: &mut [u8],
-) -> RowAt
-    requires { TurnThere at i list.old store.old pages.now separators.now changes.now values.now area.old tickets.old }
-    ensures { LeafTurned at i list.old store.old pages.now separators.now changes.now values.now area.old tickets.old result list.new store.new area.new tickets.new }
+) -> Result<RowAt, Refusal>
+    requires { TurnThere t list.old store.old lent area.old tickets.old }
+    ensures { LeafTurned t list.old store.old lent.entry area.old tickets.old result list.new store.new area.new tickets.new }
 {
-    let leaf = leaf_at(separators, i);
-    let to = changes_end(changes, at.change, leaf);
-    let loads = is_loaded(at, to);
-    if loads {
-        let after = load_leaf(
-            at, leaf, list, store, pages, changes, to, values, area, tickets,
-        );
-        after
-    } else {
-        let after = copy_leaf(at, leaf, pages, area, tickets);
-        after
+    if is_loaded(t.at, t.to) {
+        return load_leaf(t, list, store, lent, area, tickets);
     }
+    Ok(copy_leaf(t.at, t.leaf, lent.pages, area, tickets))
 }
 
 // ---- leaf after leaf
@@ -48,38 +49,28 @@ pub fn begin_row() -> RowAt
     ensures { result ≡ nothing_at }
 {
     RowAt {
-        number: 0,
         leaves: 0,
         last: [0; 32],
         change: 0,
         value: 0,
-        waiting: false,
-        work: fresh_work(false, None, None),
+        waiting: None,
     }
 }
 
-// All leaves of a row.
+// All leaves of a row, up to the first that is refused.
 pub fn all_turns(
     list: &mut [Entry],
     store: &mut [u8],
-    pages: &[u8],
-    separators: &[[u8; 32]],
-    changes: &[[u8; 40]],
-    values: &[u8],
+    lent: LentRow,
     area: &mut [u8],
     tickets: &mut [u8],
-) -> RowAt
-    requires { RowThere list.old store.old pages.now separators.now changes.now values.now area.old tickets.old }
-    ensures { RowTurned list.old store.old pages.now separators.now changes.now values.now area.old tickets.old result list.new store.new area.new tickets.new }
+) -> Result<RowAt, Refusal>
+    requires { RowAsked list.old store.old lent area.old tickets.old }
+    ensures { RowGiven list.old store.old lent.entry area.old tickets.old result list.new store.new area.new tickets.new }
 {
     let mut at = begin_row();
-    for i in 0..separators.len() {
-        if at.number != 0 {
-            return at;
-        }
-        at = turn(
-            at, i, list, store, pages, separators, changes, values, area, tickets,
-        );
+    for i in 0..lent.separators.len() {
+        at = turn(turn_at(at, lent, i), list, store, lent, area, tickets)?;
     }
-    at
+    Ok(at)
 }

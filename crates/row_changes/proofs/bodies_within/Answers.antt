@@ -1,17 +1,8 @@
 -- `row_changes::bodies_within` meets its contract.
 -- Assumes nothing.
-use Rattle.std.proofs.Common.{rules}
-use Rattle.row_changes.proofs.Loops.{all_is_left, one_exceeds, less_is_left, nothing_exceeds}
+use Rattle.std.proofs.Common.{◌∙◌}
+use Rattle.row_changes.proofs.Loops.{bodies_are_within}
 use Rattle.row_changes.proofs.bodies_within.Goals as goal
 
-pub loop-change-init : goal.loop-change-init
-loop-change-init c = search (all_is_left, rules)
-
-pub returns-then-left-body : goal.returns-then-left-body
-returns-then-left-body c = search (one_exceeds, rules)
-
-pub loop-change-preserved : goal.loop-change-preserved
-loop-change-preserved c = search (less_is_left, rules)
-
 pub returns : goal.returns
-returns c = search (nothing_exceeds, rules)
+returns c = c.within.ensures ∙ bodies_are_within _ _

@@ -1,11 +1,8 @@
 -- `row_changes::value_len` meets its contract.
 -- Assumes nothing.
-use Rattle.std.proofs.Common.{rules}
-use Rattle.row_changes.proofs.Entries.{a_put_takes_its_length, a_deletion_takes_nothing}
+use Rattle.std.proofs.Common.{arith, ◌∙◌}
+use Rattle.row_changes.proofs.Entries.{a_value_is_alone}
 use Rattle.row_changes.proofs.value_len.Goals as goal
 
-pub returns-then-not-put_at : goal.returns-then-not-put_at
-returns-then-not-put_at c = (search (a_deletion_takes_nothing, rules), search rules)
-
 pub returns : goal.returns
-returns c = (search (a_put_takes_its_length, rules), search rules)
+returns c = (c.size_with.ensures.0 ∙ a_value_is_alone _, omega (arith, c.size_with.ensures.1))

@@ -1,16 +1,20 @@
 -- `row_ingest::take_changes` meets its contract.
-use Rattle.row_ingest.proofs.Run.{nothing_taken_yet, the_change_is_there, one_more_is_taken}
+-- Assumes nothing.
+use Rattle.refusal.proofs.Refused.{passed_on}
+use Rattle.row_ingest.proofs.Run.{the_change_is_there, one_more_is_taken, the_refusal_stays}
 use Rattle.row_ingest.proofs.take_changes.Goals as goal
 
-pub loop-i-init : goal.loop-i-init
-loop-i-init c = (c.requires, nothing_taken_yet _ _ _ _ _ _ c.requires)
+pub take_change-requires : goal.take_change-requires
+take_change-requires c =
+    let known = c.loop-change.invariant in
+    the_change_is_there _ _ _ _ _ _ known.0 _ _ _ _ known.1 _ c.loop-change-test.true
 
-pub take_change-t-requires : goal.take_change-t-requires
-take_change-t-requires c =
-    let known = c.loop-i.invariant in
-    the_change_is_there c.args.start _ _ _ _ _ known.0 c.loop-i.t _ _ _ known.1 c.loop-i-test.true c.if-t-ne0.false
+pub loop-change-preserved : goal.loop-change-preserved
+loop-change-preserved c =
+    let known = c.loop-change.invariant in
+    (known.0, one_more_is_taken _ _ _ _ _ _ known.0 _ _ _ _ known.1 _ c.loop-change-test.true _ _ _ c.in_ok-t.ensures)
 
-pub loop-i-preserved : goal.loop-i-preserved
-loop-i-preserved c =
-    let known = c.loop-i.invariant in
-    (known.0, one_more_is_taken c.args.start _ _ _ _ _ known.0 c.loop-i.t _ _ _ known.1 c.loop-i-test.true c.if-t-ne0.false c.take_change-t.result _ _ c.take_change-t.ensures)
+pub returns-in_err-t : goal.returns-in_err-t
+returns-in_err-t c =
+    let known = c.loop-change.invariant in
+    rw (passed_on _ _ c.from_residual.ensures) (the_refusal_stays _ _ _ _ _ _ known.0 _ _ _ _ known.1 _ c.loop-change-test.true _ _ _ c.in_err-t.ensures)
