@@ -10,35 +10,40 @@ use native.Mathlib.Nat.{add-sub_cancel_left}
 use native.Mathlib.Numerals.{add-one}
 use native.Mathlib.Omega.{arith}
 use lib.ListN.{length, take, drop}
-use borrow.Author.Tests.{not-true, not-false}
+use borrow.Author.Tests.{eqb-true, eqb-false, eq-eqb, ne_eqb, not-true, not-false}
 use Rattle.leaf_node.specs.Page.{count, key_at, flag_at, start, length_at, value_at, record_at, run, records_between, records}
-use Rattle.leaf_node.specs.Steps.{Readable, Laid}
+use Rattle.leaf_node.specs.Steps.{Laid}
 use Rattle.leaf_work.specs.Tests.{same_bytes}
 use Rattle.leaf_node.proofs.Laying.{start_inside}
 use Rattle.melt_weight.specs.declared.Weight.{Weight}
 use Rattle.melt_weight.specs.Weight.{weight_of}
 use Rattle.melt_scale.specs.declared.Scale.{Scale}
 use Rattle.melt_scale.specs.Steps.{weighed, weighed_record, weighed_all, record_room, page_room, Light, Heavier}
-use Rattle.melt_scale.proofs.Scales.{no_weight_more, more_weights, still_light}
+use Rattle.melt_scale.proofs.Scales.{no_weight_more, more_weights}
 
 -- ---- a tree's name
 
-pub slices_are_compared : (xs ys : List ℕ) → pointwise eqb xs ys ≡ same_bytes xs ys
-slices_are_compared [] [] = refl
-slices_are_compared [] (y ∷ ys) = refl
-slices_are_compared (x ∷ xs) [] = refl
-slices_are_compared (x ∷ xs) (y ∷ ys) = go (eqb x y) (slices_are_compared xs ys)
+turned : (x y : ℕ) → eqb y x ≡ eqb x y
+turned x y = go (eqb x y) refl
   where
-    go : (b : Bool) → pointwise eqb xs ys ≡ same_bytes xs ys → (b && pointwise eqb xs ys) ≡ elim b [ true ↦ same_bytes xs ys | false ↦ false ]
+    go : (b : Bool) → eqb x y ≡ b → eqb y x ≡ b
+    go true e = eq-eqb y x (sym (eqb-true x y e))
+    go false e = ne_eqb y x (λ q. eqb-false x y e (sym q))
+
+-- the library compares the needle's bytes with the others
+pub prefixes_are_compared : (xs ys : List ℕ) → pointwise eqb ys xs ≡ same_bytes xs ys
+prefixes_are_compared [] [] = refl
+prefixes_are_compared [] (y ∷ ys) = refl
+prefixes_are_compared (x ∷ xs) [] = refl
+prefixes_are_compared (x ∷ xs) (y ∷ ys) = rw (turned x y) (go (eqb x y) (prefixes_are_compared xs ys))
+  where
+    go : (b : Bool) → pointwise eqb ys xs ≡ same_bytes xs ys → (b && pointwise eqb ys xs) ≡ elim b [ true ↦ same_bytes xs ys | false ↦ false ]
     go true h = h
     go false h = refl
 
 -- ---- a record
 
 module _ (page : List ℕ) (i : ℕ) (laid : Laid page (count page)) (h : i < count page) where
-  pub a_record_can_be_read : Readable page i
-  a_record_can_be_read = record { inside = laid.inside; there = h; step = laid.steps i h }
-
   pub a_value_lies_in_its_page : (from len : ℕ) → from + len ≡ start page (i + 1) → from + len ≤ length page
   a_value_lies_in_its_page from len e = omega (arith, e, start_inside page (count page) laid (i + 1) (omega arith))
 
@@ -78,9 +83,6 @@ module _ (page tree : List ℕ) (at : Scale) (l : Light page_room at) where
     before_the_first = record { within = omega arith; same = rw c; heavier = no_weight_more _ at l 0 }
 
     module _ (s : Scale) (i : ℕ) (a : After page tree at n s i) where
-      pub room_on_the_scale : n < 65536 → i < n → Light record_room s
-      room_on_the_scale few h = still_light at s i (omega arith) l a.heavier
-
       pub one_record_more : i < n → (t : Scale) → t ≡ weighed_record tree s (record_at page i) → Heavier 1 s t → After page tree at n t (i + 1)
       unfolding run
       one_record_more h t e g =

@@ -62,11 +62,10 @@ fn weigh(at: Scale, weight: Option<Weight>) -> Scale
 }
 
 // Whether a key's first 24 bytes are the tree's.
-fn names(key: &[u8], tree: &[u8]) -> bool
-    requires { (24 ≤ length key.now) × (length tree.now ≡ 24) }
+fn names(key: &[u8; 32], tree: &[u8; 24]) -> bool
     ensures { result ≡ same_bytes (take 24 key.now) tree.now }
 {
-    &key[..24] == tree
+    key.starts_with(tree)
 }
 
 // Record i of a page, laid on the scale if it is a weight of the tree.

@@ -19,11 +19,11 @@ use Rattle.leaf_work.proofs.Tests.{passed, first_zero}
 use Rattle.row_check.specs.Verdict.{row_of, lent_row_verdict}
 use Rattle.melt_weight.specs.declared.Weight.{Weight}
 use Rattle.melt_weight.specs.declared.LeafMelt.{LeafMelt}
-use Rattle.melt_weight.specs.Weight.{weight_limit, FactorRight}
+use Rattle.melt_weight.specs.Weight.{weight_limit}
 use Rattle.melt_weight.specs.Sheet.{sheet_of}
 use Rattle.melt_scale.specs.declared.Scale.{Scale}
 use Rattle.melt_scale.specs.Tree.{total, all_known, sprues, factors}
-use Rattle.melt_scale.specs.Steps.{empty_scale, weighed_all, Heavier}
+use Rattle.melt_scale.specs.Steps.{empty_scale, weighed_all}
 use Rattle.melt_scale.proofs.Sums.{last_or, it_knows_whether_all_are_known, it_has_their_total, it_counts_the_sprues, it_counts_the_factors, it_has_the_last_factor}
 use Rattle.melt_sheet.specs.Melt.{row_records, weights_of, is_whole, tree_verdict, melt_verdict, the_factor, refused_melt, melt_of}
 use Rattle.melt_sheet.specs.Steps.{scale_verdict}
@@ -108,6 +108,3 @@ the_total_is_a_float_exactly s w b z =
     let q = passed 19 (eqb s.sprues 1 && eqb s.factors 1) _ p.1 in
     let l : s.total ≤ weight_limit = leb-true s.total weight_limit (passed 23 (leb s.total weight_limit) _ q.1).0 in
     le_trans l (lit≤ tt)
-
-pub the_factor_is_right : (s : Scale) → Heavier 16384 empty_scale s → FactorRight s.factor
-the_factor_is_right s h = h.factor

@@ -3,26 +3,26 @@
 
 ghost use Rattle.std.specs.Prelude.{◌≡◌, IfOk};
 ghost use Rattle.refusal.specs.Numbers.{number_of};
-ghost use Rattle.leaf_node.specs.Limits.{PageSize};
 ghost use Rattle.row_check.specs.Verdict.{row_of};
 ghost use Rattle.melt_scale.specs.Steps.{empty_scale, weighed_all, Heavier};
 ghost use Rattle.melt_sheet.specs.Melt.{row_records, refused_melt, melt_verdict, melt_of};
 ghost use Rattle.melt_sheet.specs.Steps.{RowRight, scale_verdict};
 
+use leaf_node::Size;
 use melt_scale::{Scale, empty, weigh_page};
 use melt_weight::{LeafMelt, MOST_WAX, melt};
 use refusal::Refusal;
 use row_check::lent_row_verdict;
 
 // All pages of a row, s being the scale after the first i.
-fn weigh_row(pages: &[u8], separators: &[[u8; 32]], tree: &[u8; 24], size: usize) -> Scale
-    requires { RowRight size pages.now separators.now }
-    ensures { (result ≡ weighed_all tree.now empty_scale (row_records (row_of size pages.now separators.now))) × (Heavier 16384 empty_scale result) }
+fn weigh_row(pages: &[u8], separators: &[[u8; 32]], tree: &[u8; 24], size: Size) -> Scale
+    requires { RowRight size.bytes pages.now separators.now }
+    ensures { (result ≡ weighed_all tree.now empty_scale (row_records (row_of size.bytes pages.now separators.now))) × (Heavier 16384 empty_scale result) }
 {
     let mut s = empty();
     for i in 0..separators.len() {
-        let from = i * size;
-        let to = from + size;
+        let from = i * size.bytes;
+        let to = from + size.bytes;
         s = weigh_page(&pages[from..to], tree, s);
     }
     s
@@ -65,11 +65,10 @@ fn melted(
     pages: &[u8],
     separators: &[[u8; 32]],
     tree: &[u8; 24],
-    size: usize,
+    size: Size,
 ) -> Result<LeafMelt, Refusal>
-    requires { PageSize size }
-    ensures number { number_of result ≡ melt_verdict size pages.now separators.now tree.now }
-    ensures sheet { IfOk result (λ sheet. sheet ≡ melt_of size pages.now separators.now tree.now) }
+    ensures number { number_of result ≡ melt_verdict size.bytes pages.now separators.now tree.now }
+    ensures sheet { IfOk result (λ sheet. sheet ≡ melt_of size.bytes pages.now separators.now tree.now) }
 {
     lent_row_verdict(pages, separators, size)?;
     let s = weigh_row(pages, separators, tree, size);
@@ -77,10 +76,9 @@ fn melted(
     Ok(melt(s.total, s.factor))
 }
 
-// The melt sheet of the tree that these 24 key bytes name, in a row of pages of `size` bytes.
-pub fn sheet(pages: &[u8], separators: &[[u8; 32]], tree: &[u8; 24], size: usize) -> LeafMelt
-    requires { PageSize size }
-    ensures { result ≡ melt_of size pages.now separators.now tree.now }
+// The melt sheet of the tree that these 24 key bytes name, in a row of pages of this size.
+pub fn sheet(pages: &[u8], separators: &[[u8; 32]], tree: &[u8; 24], size: Size) -> LeafMelt
+    ensures { result ≡ melt_of size.bytes pages.now separators.now tree.now }
 {
     match melted(pages, separators, tree, size) {
         Ok(sheet) => sheet,

@@ -65,13 +65,6 @@ module _ (b : ℕ) (lo : least_factor ≤ b) (hi : b ≤ most_factor) where
       some : (n : ℕ) → 0 < 4503599627370496 + n
       some n = omega arith
 
-  digits_few : digits_of b < 9007199254740992
-  unfolding digits_of
-  digits_few = go (b % 2 ^ 52) (mod-lt b (pow_pos 52))
-    where
-      go : (n : ℕ) → n < 4503599627370496 → 4503599627370496 + n < 9007199254740992
-      go n h = omega arith
-
   digits_many : 4503599627370496 ≤ digits_of b
   unfolding digits_of
   digits_many = go (b % 2 ^ 52)

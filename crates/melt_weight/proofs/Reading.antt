@@ -1,12 +1,14 @@
 -- Numbers read low byte first, and weights by kind and length. Assumes nothing.
 use Rattle.std.specs.Prelude.{Option, Some, None}
-use Rattle.std.proofs.Common.{◌≡◌, ℕ, ◌+◌, ◌*◌, ◌<◌, ◌≤◌, Bool, true, false, cond, ◌&&◌, eqb, List, [], ◌∷◌, length, get_or, take, drop, refl, ap, ◌∙◌, add-zero, arith, length-drop, get_or-drop, take_all, ne_eqb, le-leb}
+use Rattle.std.proofs.Common.{◌≡◌, ℕ, ◌+◌, ◌<◌, ◌≤◌, Bool, true, false, cond, ◌&&◌, eqb, List, [], ◌∷◌, length, get_or, take, drop, refl, ap, ◌∙◌, arith, length-drop, take_all, ne_eqb, le-leb}
 use borrow.Author.Tests.{lt-leb}
+use Rattle.std.specs.Int.{w32, w64, from_le_bytes}
 use Rattle.melt_weight.specs.declared.Weight.{Weight}
 use Rattle.melt_weight.specs.declared.Weight.TheVariants.{Piece, Sprue}
 use Rattle.melt_weight.specs.Weight.{low, body_of, factor_of, is_kind, weight_limit, limited, long_weight_of, weight_of}
 
-four : (l : List ℕ) → get_or l 0 0 + get_or l 1 0 * 256 + get_or l 2 0 * 65536 + get_or l 3 0 * 16777216 ≡ low (take 4 l)
+-- the library's number of the first four bytes and of the first eight
+four : (l : List ℕ) → from_le_bytes w32 (take 4 l) ≡ low (take 4 l)
 unfolding low
 four [] = refl
 four (a ∷ []) = omega arith
@@ -14,8 +16,24 @@ four (a ∷ b ∷ []) = omega arith
 four (a ∷ b ∷ c ∷ []) = omega arith
 four (a ∷ b ∷ c ∷ d ∷ l) = omega arith
 
-pub four_spell : (xs : List ℕ) (at : ℕ) → get_or xs at 0 + get_or xs (at + 1) 0 * 256 + get_or xs (at + 2) 0 * 65536 + get_or xs (at + 3) 0 * 16777216 ≡ low (take 4 (drop at xs))
-four_spell xs at = rw (← four (drop at xs), get_or-drop at xs 0 0, get_or-drop at xs 1 0, get_or-drop at xs 2 0, get_or-drop at xs 3 0, add-zero at) refl
+eight : (l : List ℕ) → from_le_bytes w64 (take 8 l) ≡ low (take 8 l)
+unfolding low
+eight [] = refl
+eight (a ∷ []) = omega arith
+eight (a ∷ b ∷ []) = omega arith
+eight (a ∷ b ∷ c ∷ []) = omega arith
+eight (a ∷ b ∷ c ∷ d ∷ []) = omega arith
+eight (a ∷ b ∷ c ∷ d ∷ e ∷ []) = omega arith
+eight (a ∷ b ∷ c ∷ d ∷ e ∷ f ∷ []) = omega arith
+eight (a ∷ b ∷ c ∷ d ∷ e ∷ f ∷ g ∷ []) = omega arith
+eight (a ∷ b ∷ c ∷ d ∷ e ∷ f ∷ g ∷ h ∷ l) = omega arith
+
+module _ (l b : List ℕ) (n : ℕ) where
+  pub four_spell : b ≡ take 4 l → n ≡ from_le_bytes w32 b → n ≡ low (take 4 l)
+  four_spell e q = rw (q, e) (four l)
+
+  pub eight_spell : b ≡ take 8 l → n ≡ from_le_bytes w64 b → n ≡ low (take 8 l)
+  eight_spell e q = rw (q, e) (eight l)
 
 -- the body of a value of n + 1 bytes
 pub body_is : (n : ℕ) (v : List ℕ) → length v ≡ n + 1 → take n (drop 1 v) ≡ drop 1 v

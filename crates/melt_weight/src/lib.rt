@@ -7,6 +7,8 @@ ghost use Rattle.std.specs.Float.{fin};
 ghost use Rattle.melt_weight.specs.Weight.{low, factor_of, long_weight_of, weight_of, FactorRight, WeightRight};
 ghost use Rattle.melt_weight.specs.Sheet.{whole_above, sheet_of};
 
+use bit_ops::bytes_from;
+
 // The most milligrams of a weight of 64 bits, and of a tree.
 pub const MOST_WAX: u64 = 1099511627776;
 
@@ -37,8 +39,7 @@ fn low_half(bytes: &[u8], at: usize) -> u64
     requires { at + 4 ≤ length bytes.now }
     ensures { (result ≡ low (take 4 (drop at bytes.now))) × (result < 4294967296) }
 {
-    let half = u32::from_le_bytes([bytes[at], bytes[at + 1], bytes[at + 2], bytes[at + 3]]);
-    u64::from(half)
+    u64::from(u32::from_le_bytes(*bytes_from(bytes, at)))
 }
 
 // The number that eight bytes from `at` on spell, low byte first.
@@ -46,9 +47,7 @@ fn low_word(bytes: &[u8], at: usize) -> u64
     requires { at + 8 ≤ length bytes.now }
     ensures { result ≡ low (take 8 (drop at bytes.now)) }
 {
-    let mut word = [0u8; 8];
-    word.copy_from_slice(&bytes[at..at + 8]);
-    u64::from_le_bytes(word)
+    u64::from_le_bytes(*bytes_from(bytes, at))
 }
 
 // The factor of these bits, if it is one from 1 to 32. The bits are compared, so that no NaN is made.

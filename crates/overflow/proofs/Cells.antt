@@ -6,6 +6,7 @@ use Prim.Native.Nat.{ℕ, zero, suc, ◌+◌, ◌-◌, ◌*◌, ◌≤◌, ◌<�
 use native.Mathlib.Nat.{zero-add, sub-zero}
 use native.Mathlib.Omega.{arith}
 use lib.Dec.{eqb}
+use Rattle.std.specs.Int.{w64, to_le_bytes}
 use lib.ListN.{length, drop, length-append, length-take}
 use lib.Seq.{take_all}
 use borrow.Author.Tests.{eqb-true, eq-eqb, ne_eqb}
@@ -23,7 +24,7 @@ use Rattle.overflow.specs.Outcome.{padded}
 use Rattle.overflow.specs.Verdict.{count_verdict}
 use Rattle.overflow.specs.Steps.{RightCell, WrongCell}
 use Rattle.overflow.proofs.Counts.{right_sizes, accepted_sizes, refused_sizes, a_value_has_a_page}
-use Rattle.overflow.proofs.Numbers.{length_low, numbers_long}
+use Rattle.overflow.proofs.Numbers.{length_low, a_number_is_written, numbers_long}
 
 -- ---- written
 
@@ -41,15 +42,16 @@ unfolding cell_of
 length_cell size hash numbers h =
     simp (length-append, length_low, numbers_long, length-take) (omega (arith, h))
 
-pub a_cell_is_written : (size : ℕ) (hash numbers z a b d : List ℕ) → length hash ≡ 32 → length numbers ≤ 15 → z ≡ zeros 100 → a ≡ put z 0 (low_bytes 8 size) → b ≡ put a 8 hash
+pub a_cell_is_written : (size : ℕ) (hash numbers z s a b d : List ℕ) → length hash ≡ 32 → length numbers ≤ 15 → z ≡ zeros 100 → s ≡ to_le_bytes w64 size → a ≡ put z 0 s → b ≡ put a 8 hash
     → d ≡ put b 40 (numbers_out numbers) → d ≡ padded (cell_of size hash numbers)
 unfolding cell_of
-a_cell_is_written size hash numbers z a b d h l ez ea eb ed =
+a_cell_is_written size hash numbers z s a b d h l ez es ea eb ed =
     let e = length_low 8 size in
     rw (
       ed,
       eb,
       ea,
+      es ∙ a_number_is_written 8 size,
       ez,
       put_put (zeros 100) 0 (low_bytes 8 size) 8 hash (omega arith) (omega arith),
       put_put (zeros 100) 0 (low_bytes 8 size ++ hash) 40 (numbers_out numbers) (simp length-append (omega arith)) (omega arith),

@@ -1,16 +1,17 @@
 -- Numbers in bytes, low byte first: written, read, and read back. Assumes nothing.
 use mathlib.Core.Path.{◌≡◌, refl, sym, ap, ◌∙◌}
 use mathlib.Core.List.{List, [], ◌∷◌, ◌++◌, append_assoc}
-use Prim.Native.Nat.{ℕ, zero, suc, ◌+◌, ◌-◌, ◌*◌, ◌/◌, ◌%◌, ◌≤◌, ◌<◌}
-use native.Mathlib.Nat.{add-zero, sub-zero}
+use Prim.Native.Nat.{ℕ, zero, suc, ◌+◌, ◌*◌, ◌/◌, ◌%◌, ◌^◌, ◌≤◌, ◌<◌}
+use native.Mathlib.Nat.{div-div-eq-div-mul, pow-suc}
 use native.Mathlib.Omega.{arith}
 use native.Mathlib.Numerals.{add-one}
+use Rattle.std.specs.Int.{w32, w64, byte_at, bytes_low_first, to_le_bytes, from_le_bytes}
 use lib.ListN.{length, get_or, take, drop, set, length-append, length-drop}
-use lib.Seq.{set_split, drop-cons, get_or-drop}
+use lib.Seq.{set_split, drop-cons}
 use Rattle.leaf_node.specs.Build.{put}
 use Rattle.leaf_builder.proofs.Putting.{put_none, put_put, length_put}
 use Rattle.overflow.specs.Written.{low_bytes, numbers_out}
-use Rattle.overflow.specs.Read.{low_number}
+use Rattle.overflow.specs.Read.{low_number, cell_size}
 
 -- ---- an element, then the others
 
@@ -28,39 +29,21 @@ unfolding low_bytes
 length_low zero n = refl
 length_low (suc k) n = ap suc (length_low k (n / 256))
 
-next_low : (k n : ℕ) → low_bytes (suc k) n ≡ n % 256 ∷ low_bytes k (n / 256)
+byte_is : (i n : ℕ) → byte_at i n ≡ n / 256 ^ i % 256
+byte_is zero n = omega arith
+byte_is (suc i) n = refl
+
+as_the_library : (k i n : ℕ) → bytes_low_first i k n ≡ low_bytes k (n / 256 ^ i)
 unfolding low_bytes
-next_low k n = refl
+as_the_library zero i n = refl
+as_the_library (suc k) i n = rw (byte_is i n, as_the_library k (suc i) n, div-div-eq-div-mul n (256 ^ i) 256, pow-suc 256 i)
 
--- the bytes before j are written, and those of `left` are still to come
-pub record Lowered (at count n : ℕ) (d x : List ℕ) (j left : ℕ) : Type 0 where
-  pub within : j ≤ count
-  pub long : length x ≡ length d
-  pub same : put d at (low_bytes count n) ≡ put x (at + j) (low_bytes (count - j) left)
+-- the library writes them so
+pub a_number_is_written : (k n : ℕ) → bytes_low_first 0 k n ≡ low_bytes k n
+a_number_is_written k n = let e : n / 1 ≡ n = omega arith in as_the_library k 0 n ∙ rw e
 
-module _ (at count n : ℕ) (d : List ℕ) where
-  pub none_is_lowered : Lowered at count n d d 0 n
-  none_is_lowered = record { within = omega arith; long = refl; same = rw (add-zero at, sub-zero count) }
-
-  module _ (x : List ℕ) (j left : ℕ) (h : Lowered at count n d x j left) where
-    pub one_more_is_lowered : j < count → at + count ≤ length d → Lowered at count n d (set x (at + j) (left % 256)) (j + 1) (left / 256)
-    one_more_is_lowered l r = record {
-      within = omega arith;
-      long = simp lib.ListN.length-set h.long;
-      same = h.same ∙ step;
-    }
-      where
-        step : put x (at + j) (low_bytes (count - j) left) ≡ put (set x (at + j) (left % 256)) (at + (j + 1)) (low_bytes (count - (j + 1)) (left / 256))
-        step =
-            let a : count - j ≡ suc (count - (j + 1)) = omega arith in
-            let b : at + j + 1 ≡ at + (j + 1) = omega arith in
-            rw (a, next_low (count - (j + 1)) left, put_next x (at + j) (left % 256) (low_bytes (count - (j + 1)) (left / 256)) (omega (arith, h.long)), b)
-
-    pub all_is_lowered : count ≤ j → x ≡ put d at (low_bytes count n)
-    unfolding low_bytes
-    all_is_lowered l =
-        let a : count - j ≡ 0 = omega arith in
-        sym (h.same ∙ rw a (put_none x (at + j)))
+pub four_bytes_are_written : (x y b : List ℕ) (at n : ℕ) → b ≡ to_le_bytes w32 n → y ≡ put x at b → y ≡ put x at (low_bytes 4 n)
+four_bytes_are_written x y b at n e q = rw (q, e, a_number_is_written 4 n)
 
 -- ---- page numbers
 
@@ -80,9 +63,6 @@ pub record Listed (at : ℕ) (ns d x : List ℕ) (j : ℕ) : Type 0 where
   pub same : put d at (numbers_out ns) ≡ put x (at + 4 * j) (numbers_out (drop j ns))
 
 module _ (at : ℕ) (ns d : List ℕ) where
-  pub none_is_listed : Listed at ns d d 0
-  none_is_listed = record { within = omega arith; long = refl; same = rw (add-zero at) }
-
   module _ (x : List ℕ) (j : ℕ) (h : Listed at ns d x j) where
     pub one_more_is_listed : j < length ns → at + 4 * length ns ≤ length d → (n : ℕ) → n ≡ get_or ns j 0 → (y : List ℕ) → y ≡ put x (at + 4 * j) (low_bytes 4 n) → Listed at ns d y (j + 1)
     one_more_is_listed l r n e y q = record {
@@ -102,8 +82,8 @@ module _ (at : ℕ) (ns d : List ℕ) where
 
 -- ---- reading
 
--- four bytes
-four : (bs : List ℕ) → low_number (take 4 bs) ≡ get_or bs 0 0 + 256 * get_or bs 1 0 + 65536 * (get_or bs 2 0 + 256 * get_or bs 3 0)
+-- the library's number of the first four bytes and of the first eight
+four : (bs : List ℕ) → from_le_bytes w32 (take 4 bs) ≡ low_number (take 4 bs)
 unfolding low_number
 four [] = refl
 four (a ∷ []) = omega arith
@@ -111,6 +91,22 @@ four (a ∷ b ∷ []) = omega arith
 four (a ∷ b ∷ c ∷ []) = omega arith
 four (a ∷ b ∷ c ∷ d ∷ bs) = omega arith
 
-pub four_bytes_are_read : (bs : List ℕ) (at : ℕ) → get_or bs at 0 + get_or bs (at + 1) 0 * 256 + get_or bs (at + 2) 0 * 65536 + get_or bs (at + 3) 0 * 16777216 ≡ low_number (take 4 (drop at bs))
-four_bytes_are_read bs at =
-    rw (four (drop at bs), get_or-drop at bs 0 0, get_or-drop at bs 1 0, get_or-drop at bs 2 0, get_or-drop at bs 3 0, add-zero at) (omega arith)
+eight : (bs : List ℕ) → from_le_bytes w64 (take 8 bs) ≡ low_number (take 8 bs)
+unfolding low_number
+eight [] = refl
+eight (a ∷ []) = omega arith
+eight (a ∷ b ∷ []) = omega arith
+eight (a ∷ b ∷ c ∷ []) = omega arith
+eight (a ∷ b ∷ c ∷ d ∷ []) = omega arith
+eight (a ∷ b ∷ c ∷ d ∷ e ∷ []) = omega arith
+eight (a ∷ b ∷ c ∷ d ∷ e ∷ f ∷ []) = omega arith
+eight (a ∷ b ∷ c ∷ d ∷ e ∷ f ∷ g ∷ []) = omega arith
+eight (a ∷ b ∷ c ∷ d ∷ e ∷ f ∷ g ∷ h ∷ bs) = omega arith
+
+module _ (bs b : List ℕ) (n : ℕ) where
+  pub four_bytes_are_read : b ≡ take 4 bs → n ≡ from_le_bytes w32 b → n ≡ low_number (take 4 bs)
+  four_bytes_are_read e q = rw (q, e) (four bs)
+
+  pub eight_bytes_are_read : b ≡ take 8 (drop 0 bs) → n ≡ from_le_bytes w64 b → n ≡ cell_size bs
+  unfolding cell_size
+  eight_bytes_are_read e q = rw (q, e) (eight bs)

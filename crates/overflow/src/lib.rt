@@ -15,6 +15,7 @@ ghost use Rattle.overflow.specs.Verdict.{count_verdict};
 ghost use Rattle.overflow.specs.Outcome.{count_of, padded};
 ghost use Rattle.overflow.specs.Steps.{CellRead};
 
+use bit_ops::bytes_from;
 use leaf_node::copy_in;
 use refusal::Refusal;
 
@@ -81,21 +82,22 @@ pub struct LeafFreed {
 // ---- the page count
 
 // Whether a value may be so long: not empty, and not over the most.
-pub fn size_right(size: usize) -> bool
-    ensures { result ≡ size_right size }
+pub fn size_right(value_size: usize) -> bool
+    ensures { result ≡ size_right value_size }
 {
-    (0 < size) & (size <= MAX_OVERFLOW_VALUE_SIZE)
+    (0 < value_size) & (value_size <= MAX_OVERFLOW_VALUE_SIZE)
 }
 
 // The smallest count of pages that holds a value of so many bytes, and 4 bytes for each page beyond the fifteenth.
-pub fn total_needed_pages(size: usize) -> PageCount
-    requires { size ≤ 1048576 }
-    ensures { (result.0 ≡ page_count size) × (result.0 ≤ 257) }
+// A value's size is a number and has no type with its bounds: this function takes 0 too, and the others any size.
+pub fn total_needed_pages(value_size: usize) -> PageCount
+    requires { value_size ≤ 1048576 }
+    ensures { (result.0 ≡ page_count value_size) × (result.0 ≤ 257) }
 {
-    if size <= 61380 {
-        return PageCount((size + 4091) / 4092);
+    if value_size <= 61380 {
+        return PageCount((value_size + 4091) / 4092);
     }
-    PageCount((size + 4027) / 4088)
+    PageCount((value_size + 4027) / 4088)
 }
 
 // How many of these numbers stand in the cell.
@@ -150,7 +152,7 @@ pub fn half_at(bytes: &[u8], at: usize) -> usize
     requires { at + 1 < length bytes.now }
     ensures { (result ≡ word bytes.now at) × (result < 65536) }
 {
-    usize::from(u16::from_le_bytes([bytes[at], bytes[at + 1]]))
+    usize::from(u16::from_le_bytes(*bytes_from(bytes, at)))
 }
 
 // The page number in four bytes from index `at` on.
@@ -158,26 +160,15 @@ pub fn number_in(bytes: &[u8], at: usize) -> PageNumber
     requires { at + 3 < length bytes.now }
     ensures { result.0 ≡ low_number (take 4 (drop at bytes.now)) }
 {
-    PageNumber(u32::from_le_bytes([bytes[at], bytes[at + 1], bytes[at + 2], bytes[at + 3]]))
+    PageNumber(u32::from_le_bytes(*bytes_from(bytes, at)))
 }
 
-// The number n in `count` bytes from index `at` on; `left` is what the bytes still to come say.
-pub fn put_low(out: &mut [u8], at: usize, count: usize, n: usize)
-    requires { at + count ≤ length out.old }
-    ensures { out.new ≡ put out.old at (low_bytes count n) }
-{
-    let mut left = n;
-    for j in 0..count {
-        out[at + j] = (left % 256) as u8;
-        left /= 256;
-    }
-}
-
+// A page number in four bytes from index `at` on.
 fn put_number(out: &mut [u8], at: usize, number: PageNumber)
     requires { at + 4 ≤ length out.old }
     ensures { out.new ≡ put out.old at (low_bytes 4 number.0) }
 {
-    put_low(out, at, 4, number.0 as usize);
+    copy_in(&number.0.to_le_bytes(), out, at);
 }
 
 // Page numbers one behind the other from index `at` on.
@@ -193,12 +184,12 @@ pub fn put_numbers(out: &mut [u8], at: usize, numbers: &[u32])
 // ---- cells
 
 // The cell of a value of so many bytes, zeros behind it.
-pub fn encode_cell(size: usize, hash: &[u8; 32], numbers: &[u32]) -> [u8; 100]
+pub fn encode_cell(value_size: usize, hash: &[u8; 32], numbers: &[u32]) -> [u8; 100]
     requires { length numbers.now ≤ 15 }
-    ensures { (result ≡ padded (cell_of size hash.now numbers.now)) × (length hash.now ≡ 32) }
+    ensures { (result ≡ padded (cell_of value_size hash.now numbers.now)) × (length hash.now ≡ 32) }
 {
     let mut cell = [0u8; 100];
-    put_low(&mut cell, 0, 8, size);
+    copy_in(&value_size.to_le_bytes(), &mut cell, 0);
     copy_in(hash, &mut cell, 8);
     put_numbers(&mut cell, 40, numbers);
     cell
@@ -209,9 +200,7 @@ fn size_in(cell: &[u8]) -> usize
     requires { 8 ≤ length cell.now }
     ensures { result ≡ cell_size cell.now }
 {
-    let mut size = [0u8; 8];
-    size.copy_from_slice(&cell[..8]);
-    usize::from_le_bytes(size)
+    usize::from_le_bytes(*bytes_from(cell, 0))
 }
 
 // Size and page count of a cell, where it is one that a splitting writes.

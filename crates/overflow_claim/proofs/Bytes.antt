@@ -23,18 +23,6 @@ use Rattle.overflow_claim.specs.Written.{Number}
 
 -- ---- a number: written, then read
 
-next_low : (k n : ℕ) → low_bytes (suc k) n ≡ n % 256 ∷ low_bytes k (n / 256)
-unfolding low_bytes
-next_low k n = refl
-
-next_of_low : (b : ℕ) (bs : List ℕ) → low_number (b ∷ bs) ≡ b + 256 * low_number bs
-unfolding low_number
-next_of_low b bs = refl
-
-none_low : (n : ℕ) → low_bytes 0 n ≡ []
-unfolding low_bytes
-none_low n = refl
-
 pub low_back : (k n : ℕ) → n < 256 ^ k → low_number (low_bytes k n) ≡ n
 unfolding low_bytes low_number
 low_back zero n h = omega arith

@@ -15,7 +15,7 @@ use Rattle.overflow.specs.Written.{low_bytes, numbers_out, cell_of, pages_of, sp
 use Rattle.overflow.specs.Read.{cell_size, cell_count, cell_numbers_read, cell_right, pages_in, joined_value, freed_numbers}
 use Rattle.overflow.specs.Verdict.{all_right}
 use Rattle.overflow.specs.Outcome.{join_of, free_of}
-use Rattle.overflow.proofs.Counts.{Sized, sizes_are_right, the_count_holds}
+use Rattle.overflow.proofs.Counts.{sizes_are_right, the_count_holds}
 use Rattle.overflow.proofs.Numbers.{length_low}
 use Rattle.overflow.proofs.Cells.{length_cell}
 use Rattle.overflow.proofs.Verdicts.{Readable, readings_that_are_right}
@@ -37,9 +37,6 @@ module _ (value hash numbers : List ℕ) (s : Splits value hash numbers) where
 
   length_used : length used ≡ t
   length_used = length-take-le t numbers s.listed
-
-  sized : Sized (length value)
-  sized = record { some = s.some; most = s.most }
 
   small_size : length value < 256 ^ 8
   small_size = omega (arith, s.most)

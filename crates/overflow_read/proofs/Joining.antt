@@ -135,9 +135,6 @@ module _ (bs : List ℕ) (from count at : ℕ) (d : List ℕ) where
 -- ---- a cell's numbers and those of its pages
 
 module _ (c pages : List ℕ) (t size : ℕ) (r : RightCell c size t) where
-  pub the_cell_has_its_numbers : (f : ℕ) → f ≡ min t 15 → 40 + 4 * f ≤ length c
-  the_cell_has_its_numbers f e = omega (arith, r.long)
-
   sized : Sized (cell_size c)
   sized = record { some = rw (← r.sized) r.some; most = rw (← r.sized) r.most }
 

@@ -52,14 +52,14 @@ fn others(pages: PageCount) -> usize
     pages.0 - in_cell(pages)
 }
 
-// Whether all pages are as a splitting of `size` bytes writes them; `numbers` and `bytes` are left for page i and those behind it.
-fn pages_right(pages: &[u8], count: PageCount, size: usize) -> bool
-    requires { 4096 * count.0 ≤ length pages.now }
-    ensures { result ≡ pages_right (count.0 - 15) size (pages_in count.0 pages.now) }
+// Whether all pages are as the splitting that wrote the cell writes them; `numbers` and `bytes` are left for page i and those behind it.
+fn pages_right(cell: Decoded, pages: &[u8]) -> bool
+    requires { 4096 * cell.pages.0 ≤ length pages.now }
+    ensures { result ≡ pages_right (cell.pages.0 - 15) cell.size (pages_in cell.pages.0 pages.now) }
 {
-    let mut numbers = others(count);
-    let mut bytes = size;
-    for i in 0..count.0 {
+    let mut numbers = others(cell.pages);
+    let mut bytes = cell.size;
+    for i in 0..cell.pages.0 {
         let shape = shape_at(numbers, bytes);
         let at = 4096 * i;
         if !page_right(&pages[at..at + 4096], shape.numbers, shape.bytes) {
@@ -76,11 +76,10 @@ fn read_verdict(cell: Decoded, pages: &[u8], fits: bool) -> Result<(), Refusal>
     requires { cell.pages.0 ≤ 257 }
     ensures { number_of result ≡ decoded_verdict cell.size cell.pages.0 pages.now fits }
 {
-    let count = cell.pages;
-    if !(fits & (4096 * count.0 <= pages.len())) {
+    if !(fits & (4096 * cell.pages.0 <= pages.len())) {
         return Err(Refusal::ShortBuffer);
     }
-    if !pages_right(pages, count, cell.size) {
+    if !pages_right(cell, pages) {
         return Err(Refusal::BadOverflow);
     }
     Ok(())
@@ -89,14 +88,14 @@ fn read_verdict(cell: Decoded, pages: &[u8], fits: bool) -> Result<(), Refusal>
 // ---- joining
 
 // The bytes of all pages, one behind the other. Before page i stand `from` bytes; `numbers` and `bytes` are left.
-fn join_pages(pages: &[u8], count: PageCount, size: usize, value: &mut [u8])
-    requires { (Checked pages.now count.0 size) × (size ≤ length value.old) }
-    ensures { value.new ≡ put value.old 0 (joined_value (pages_in count.0 pages.now)) }
+fn join_pages(cell: Decoded, pages: &[u8], value: &mut [u8])
+    requires { (Checked pages.now cell.pages.0 cell.size) × (cell.size ≤ length value.old) }
+    ensures { value.new ≡ put value.old 0 (joined_value (pages_in cell.pages.0 pages.now)) }
 {
-    let mut numbers = others(count);
-    let mut bytes = size;
+    let mut numbers = others(cell.pages);
+    let mut bytes = cell.size;
     let mut from = 0;
-    for i in 0..count.0 {
+    for i in 0..cell.pages.0 {
         let shape = shape_at(numbers, bytes);
         let at = 4096 * i + 4 + 4 * shape.numbers;
         let end = at + shape.bytes;
@@ -115,7 +114,7 @@ fn join_value(cell: &[u8], pages: &[u8], value: &mut [u8]) -> Result<usize, Refu
 {
     let read = decode_cell(cell)?;
     read_verdict(read, pages, read.size <= value.len())?;
-    join_pages(pages, read.pages, read.size, value);
+    join_pages(read, pages, value);
     Ok(read.size)
 }
 
@@ -147,13 +146,13 @@ fn take_numbers(bytes: &[u8], from: usize, count: usize, out: &mut [u32], at: us
 }
 
 // The numbers of a cell and its pages. Those of the pages stand in the first page alone, where the Rust's `delete` ends too.
-fn delete(cell: &[u8], pages: &[u8], count: PageCount, size: usize, numbers: &mut [u32])
-    requires { (RightCell cell.now size count.0) × (Checked pages.now count.0 size) × (count.0 ≤ length numbers.old) }
-    ensures { numbers.new ≡ put numbers.old 0 (cell_numbers_read cell.now ++ freed_numbers (pages_in count.0 pages.now)) }
+fn delete(cell: &[u8], said: Decoded, pages: &[u8], numbers: &mut [u32])
+    requires { (RightCell cell.now said.size said.pages.0) × (Checked pages.now said.pages.0 said.size) × (said.pages.0 ≤ length numbers.old) }
+    ensures { numbers.new ≡ put numbers.old 0 (cell_numbers_read cell.now ++ freed_numbers (pages_in said.pages.0 pages.now)) }
 {
-    let first = in_cell(count);
+    let first = in_cell(said.pages);
     take_numbers(cell, 40, first, numbers, 0);
-    take_numbers(pages, 4, others(count), numbers, first);
+    take_numbers(pages, 4, others(said.pages), numbers, first);
 }
 
 // Frees into the front of the list, where nothing refuses it. Answers how many numbers.
@@ -162,11 +161,10 @@ fn free_numbers(cell: &[u8], pages: &[u8], numbers: &mut [u32]) -> Result<usize,
     ensures count { IfOk result (λ count. count ≡ cell_count cell.now) }
     ensures numbers_after { numbers.new ≡ (free_of cell.now pages.now numbers.old).numbers }
 {
-    let read = decode_cell(cell)?;
-    let count = read.pages;
-    read_verdict(read, pages, count.0 <= numbers.len())?;
-    delete(cell, pages, count, read.size, numbers);
-    Ok(count.0)
+    let said = decode_cell(cell)?;
+    read_verdict(said, pages, said.pages.0 <= numbers.len())?;
+    delete(cell, said, pages, numbers);
+    Ok(said.pages.0)
 }
 
 // The free call: how many numbers, and the numbers in the front of the list.

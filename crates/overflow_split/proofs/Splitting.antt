@@ -3,12 +3,13 @@ use mathlib.Core.Path.{◌≡◌, refl, sym, ap, ◌∙◌}
 use mathlib.Core.Bool.{Bool, true, false}
 use mathlib.Core.List.{List, ◌++◌, append_assoc}
 use Prim.Native.Nat.{ℕ, suc, ◌+◌, ◌-◌, ◌*◌, ◌≤◌, ◌<◌, min}
-use native.Mathlib.Nat.{add-sub_cancel_left, sub-zero}
+use native.Mathlib.Nat.{add-sub_cancel_left}
 use native.Mathlib.Omega.{arith}
 use lib.ListN.{length, take, drop, length-append, length-take, length-drop, drop_of_length-le}
 use lib.Seq.{take_all, take-take, drop-drop}
 use borrow.Author.Tests.{leb-true, leb-false}
 use lib.Dec.{leb}
+use Rattle.std.specs.Int.{w16, to_le_bytes}
 use Rattle.refusal.specs.declared.Refusal.{Refusal}
 use Rattle.refusal.specs.Numbers.{number}
 use Rattle.refusal.proofs.Numbers.{not_accepted}
@@ -21,7 +22,7 @@ use Rattle.overflow.specs.Count.{page_count}
 use Rattle.overflow.specs.Written.{low_bytes, numbers_out, cell_of, page_of, pages_of, split_pages}
 use Rattle.overflow.specs.Verdict.{split_verdict}
 use Rattle.overflow.specs.Outcome.{padded, split_of}
-use Rattle.overflow.proofs.Numbers.{length_low, numbers_long}
+use Rattle.overflow.proofs.Numbers.{length_low, a_number_is_written, numbers_long}
 use Rattle.overflow.proofs.Cells.{length_cell}
 use Rattle.overflow.proofs.Verdicts.{Lent, accepted_splittings}
 use Rattle.overflow.proofs.Chunks.{length_page, a_page_by_its_counts, no_page}
@@ -29,8 +30,10 @@ use Rattle.overflow_split.specs.Steps.{refused_split}
 
 -- ---- one page
 
-pub a_head_is_written : (d a b : List ℕ) (at n m : ℕ) → at + 4 ≤ length d → a ≡ put d at (low_bytes 2 n) → b ≡ put a (at + 2) (low_bytes 2 m) → b ≡ put d at (low_bytes 2 n ++ low_bytes 2 m)
-a_head_is_written d a b at n m h ea eb = rw (eb, ea) (put_put d at (low_bytes 2 n) (at + 2) (low_bytes 2 m) (omega (arith, length_low 2 n)) (omega arith))
+pub a_head_is_written : (d s a t b : List ℕ) (at n m : ℕ) → at + 4 ≤ length d → s ≡ to_le_bytes w16 n → a ≡ put d at s → t ≡ to_le_bytes w16 m → b ≡ put a (at + 2) t
+    → b ≡ put d at (low_bytes 2 n ++ low_bytes 2 m)
+a_head_is_written d s a t b at n m h es ea et eb =
+    rw (eb, ea, es ∙ a_number_is_written 2 n, et ∙ a_number_is_written 2 m) (put_put d at (low_bytes 2 n) (at + 2) (low_bytes 2 m) (omega (arith, length_low 2 n)) (omega arith))
 
 pub a_page_is_written : (d b e f g ns bs : List ℕ) (at : ℕ) → at + 4096 ≤ length d → 4 * length ns + length bs ≤ 4092 → b ≡ put d at (low_bytes 2 (length ns) ++ low_bytes 2 (length bs))
     → e ≡ put b (at + 4) (numbers_out ns) → f ≡ put e (at + 4 + 4 * length ns) bs
@@ -70,9 +73,6 @@ pub record Chunked (t : ℕ) (ns v d x : List ℕ) (i n from : ℕ) : Type 0 whe
   pub same : put d 0 (joined (pages_of t ns v)) ≡ put x (4096 * i) (joined (pages_of (t - i) (drop n ns) (drop from v)))
 
 module _ (t : ℕ) (ns v d : List ℕ) where
-  pub no_page_is_chunked : Chunked t ns v d d 0 0 0
-  no_page_is_chunked = record { within = omega arith; numbers = omega arith; bytes = omega arith; long = refl; same = rw (sub-zero t) }
-
   module _ (x : List ℕ) (i n from : ℕ) (h : Chunked t ns v d x i n from) where
     pub all_pages_are_chunked : t ≤ i → x ≡ put d 0 (joined (pages_of t ns v))
     all_pages_are_chunked l =
@@ -80,13 +80,13 @@ module _ (t : ℕ) (ns v d : List ℕ) where
         sym (h.same ∙ rw (e, no_page (drop n ns) (drop from v)) (put_none x (4096 * i)))
 
     module _ (l : i < t) (r : 4096 * t ≤ length d) (a b : ℕ) (ea : a ≡ min 1023 (length ns - n)) (eb : b ≡ min (4092 - 4 * min 1023 (length ns - n)) (length v - from)) where
-      pub the_numbers_are_there : n + a ≤ length ns
+      the_numbers_are_there : n + a ≤ length ns
       the_numbers_are_there = omega (arith, h.numbers)
 
-      pub the_bytes_are_there : from + b ≤ length v
+      the_bytes_are_there : from + b ≤ length v
       the_bytes_are_there = omega (arith, h.bytes)
 
-      pub the_counts_fit : 4 * length (take (n + a - n) (drop n ns)) + length (take (from + b - from) (drop from v)) ≤ 4092
+      the_counts_fit : 4 * length (take (n + a - n) (drop n ns)) + length (take (from + b - from) (drop from v)) ≤ 4092
       the_counts_fit =
           let la : length (take (n + a - n) (drop n ns)) ≤ a = rw (add-sub_cancel_left n a) (few a (drop n ns)) in
           let lb : length (take (from + b - from) (drop from v)) ≤ b = rw (add-sub_cancel_left from b) (few b (drop from v)) in

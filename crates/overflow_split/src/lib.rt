@@ -2,7 +2,7 @@
 // the Rust allocates, and one area for the pages, in `chunk`'s order.
 #![tactic(auto)]
 
-ghost use Rattle.std.specs.Prelude.{◌≡◌, ◌++◌, ◌+◌, ◌*◌, ◌≤◌, length, IfOk};
+ghost use Rattle.std.specs.Prelude.{◌≡◌, ◌++◌, ◌+◌, ◌*◌, ◌≤◌, ◌<◌, length, IfOk};
 ghost use Rattle.refusal.specs.Numbers.{number, number_of};
 ghost use Rattle.leaf_node.specs.Build.{put};
 ghost use Rattle.leaf_model.specs.Basics.{joined};
@@ -14,18 +14,16 @@ ghost use Rattle.overflow_split.specs.Steps.{refused_split};
 
 use leaf_builder::clear_between;
 use leaf_node::copy_in;
-use overflow::{
-    LeafSplit, PageCount, encode_cell, in_cell, page_count, put_low, put_numbers, shape_at,
-};
+use overflow::{LeafSplit, PageCount, encode_cell, in_cell, page_count, put_numbers, shape_at};
 use refusal::Refusal;
 
 // A page's head: how many numbers, how many bytes.
 fn put_head(area: &mut [u8], at: usize, numbers: usize, bytes: usize)
-    requires { at + 4 ≤ length area.old }
+    requires { (at + 4 ≤ length area.old) × (numbers < 65536) × (bytes < 65536) }
     ensures { area.new ≡ put area.old at (low_bytes 2 numbers ++ low_bytes 2 bytes) }
 {
-    put_low(area, at, 2, numbers);
-    put_low(area, at + 2, 2, bytes);
+    copy_in(&(numbers as u16).to_le_bytes(), area, at);
+    copy_in(&(bytes as u16).to_le_bytes(), area, at + 2);
 }
 
 // One page from index `at` on: its head, these numbers, these bytes, zeros.

@@ -3,7 +3,8 @@
 
 use std::io;
 
-fn verdict(stated: bool) -> &'static str {
+// A line's end. `trials` has the same words: no program can call another's functions, and a crate for these words alone is no plainer.
+fn ending(stated: bool) -> &'static str {
     if stated { "as stated" } else { "NOT AS STATED" }
 }
 
@@ -20,7 +21,7 @@ fn split_trial(
     let reply = overflow_split::split(value, &[9u8; 32], &[7u32; 16], &mut area);
     let first = area[0];
     let counted = (reply.pages == pages) & (reply.cell_len == cell);
-    let stated = verdict((reply.refusal == 0) & (counted & (first == numbers)));
+    let stated = ending((reply.refusal == 0) & (counted & (first == numbers)));
     println!(rt;
         "{label:<17}pages {}, cell of {}, numbers in page 0: {first}   {stated}",
         reply.pages, reply.cell_len
@@ -28,7 +29,7 @@ fn split_trial(
 }
 
 // The page count of so many bytes.
-fn count_trial(
+fn pages_trial(
     rt: &impl Print,
     label: &str,
     len: usize,
@@ -36,7 +37,7 @@ fn count_trial(
     refusal: u8,
 ) -> io::Result<()> {
     let reply = overflow::pages(len);
-    let stated = verdict((reply.pages == pages) & (reply.refusal == refusal));
+    let stated = ending((reply.pages == pages) & (reply.refusal == refusal));
     println!(rt;
         "{label:<17}pages {}, refusal {}   {stated}",
         reply.pages, reply.refusal
@@ -48,6 +49,6 @@ fn main(rt: HostRuntime) -> io::Result<()> {
     split_trial(&rt, "4,093 bytes", &[5u8; 4093], 2, 48, 0)?;
     split_trial(&rt, "61,380 bytes", &[5u8; 61380], 15, 100, 0)?;
     split_trial(&rt, "61,381 bytes", &[5u8; 61381], 16, 100, 1)?;
-    count_trial(&rt, "1,048,576 bytes", 1048576, 257, 0)?;
-    count_trial(&rt, "1,048,577 bytes", 1048577, 0, 21)
+    pages_trial(&rt, "1,048,576 bytes", 1048576, 257, 0)?;
+    pages_trial(&rt, "1,048,577 bytes", 1048577, 0, 21)
 }

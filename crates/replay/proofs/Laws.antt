@@ -18,12 +18,6 @@ number_past_the_end s at h =
     let high = byte_past_the_end s (at + 1) (search rules) in
     search (low, high, rules)
 
-pub one_more_below_the_greatest : (x : ℕ) → x < 18446744073709551615 → x + 1 ≡ one_more x
-one_more_below_the_greatest x h = rw (lt-ltb x 18446744073709551615 h, one_more)
-
-pub no_more_at_the_greatest : (x : ℕ) → 18446744073709551615 ≤ x → x ≡ one_more x
-no_more_at_the_greatest x h = rw (le-ltb x 18446744073709551615 h, one_more)
-
 pub counted : (p : Bool) (x r : ℕ) → p ≡ true → r ≡ one_more x → r ≡ count_if p x
 counted p x r e q = rw (e, q)
 

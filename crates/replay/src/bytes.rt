@@ -17,7 +17,7 @@ pub(crate) fn number(s: &[u8], at: usize) -> usize
     ensures upper_bound { result < 65536 }
 {
     if at < s.len() {
-        usize::from(byte(s, at)) + 256 * usize::from(byte(s, at + 1))
+        usize::from(u16::from_le_bytes([byte(s, at), byte(s, at + 1)]))
     } else {
         0
     }

@@ -9,64 +9,58 @@ use leaf_updater::{leaf_digest, leaf_ingest, leaf_page_values_size};
 use leaf_work::{Entry, Work};
 use std::io;
 
-// The key of value i: the first n start with 10, the others with 20.
-fn key_at(i: u8, n: u8) -> [u8; 32] {
-    if i < n {
-        return key_of(0x10, i);
-    }
-    key_of(0x20, i)
-}
-
-fn value_at<'a>(i: u8, n: u8, value: &'a [u8], last: &'a [u8]) -> &'a [u8] {
-    if i < n {
-        return value;
-    }
-    last
-}
-
-// As many new values as `count` says: `value` for the first n keys, `last` for the others.
-fn put_all<'a>(
-    work: &mut Work,
-    list: &mut [Entry],
-    store: &mut [u8],
-    page: &[u8],
-    n: u8,
-    value: &'a [u8],
+// `count` new values: `value` under the first keys, which start with 10 (`first` of them), and `last` under the others, which start with 20.
+#[derive(Clone, Copy)]
+struct Values<'a> {
     count: u8,
+    first: u8,
+    value: &'a [u8],
     last: &'a [u8],
-) {
-    for i in 0..count {
-        let new = value_at(i, n, value, last);
-        leaf_ingest(work, list, store, page, &key_at(i, n), 1, 0, new);
+}
+
+impl<'a> Values<'a> {
+    // The same value for n keys that start with 10.
+    fn all(n: u8, value: &'a [u8]) -> Self {
+        Self {
+            count: n,
+            first: n,
+            value,
+            last: value,
+        }
+    }
+
+    // The key of value i.
+    fn key(self, i: u8) -> [u8; 32] {
+        if i < self.first {
+            return key_of(0x10, i);
+        }
+        key_of(0x20, i)
+    }
+
+    fn value(self, i: u8) -> &'a [u8] {
+        if i < self.first {
+            return self.value;
+        }
+        self.last
+    }
+
+    fn put_all(self, work: &mut Work, list: &mut [Entry], store: &mut [u8], page: &[u8]) {
+        for i in 0..self.count {
+            leaf_ingest(work, list, store, page, &self.key(i), 1, 0, self.value(i));
+        }
     }
 }
 
 // An opening, with a cutoff where `cut` is set; so many values, and a digest.
-fn digested<'a>(
-    base: Option<&[u8]>,
-    cut: bool,
-    n: u8,
-    value: &'a [u8],
-    count: u8,
-    last: &'a [u8],
-    area: &mut [u8],
-) -> LeafGave {
+fn digested(base: Option<&[u8]>, cut: bool, values: Values<'_>, area: &mut [u8]) -> LeafGave {
     let page = page_of(base);
     let mut work = no_work();
     let mut list = new_list();
     let mut store = [0u8; 9000];
     let mut tickets = [0u8; 260];
     open(&mut work, 0, base, cut, &mut list, &mut store);
-    put_all(
-        &mut work, &mut list, &mut store, page, n, value, count, last,
-    );
+    values.put_all(&mut work, &mut list, &mut store, page);
     leaf_digest(&mut work, &mut list, &mut store, page, area, &mut tickets)
-}
-
-fn from_byte(x: u8) -> usize
-    ensures { result < 256 }
-{
-    x as usize
 }
 
 // n, which is below 256 in a good page.
@@ -76,7 +70,7 @@ fn count_of(page: &[u8]) -> usize
     if page.len() == 0 {
         return 0;
     }
-    from_byte(page[0])
+    usize::from(page[0])
 }
 
 // The body of a leaf, by its page.
@@ -126,7 +120,7 @@ fn values_trial(
 ) -> io::Result<()> {
     print!(rt; "{label:<45}")?;
     let mut area = [0u8; 16384];
-    let after = digested(None, false, n, value, n, value, &mut area);
+    let after = digested(None, false, Values::all(n, value), &mut area);
     let right = say_leaves(rt, after, &area, stated, 0)?;
     close(rt, right)
 }
@@ -142,7 +136,13 @@ fn merge_trial<'a>(
 ) -> io::Result<()> {
     print!(rt; "{label:<45}")?;
     let mut area = [0u8; 16384];
-    let after = digested(Some(&[0u8; 4096]), true, 1, value, 2, last, &mut area);
+    let values = Values {
+        count: 2,
+        first: 1,
+        value,
+        last,
+    };
+    let after = digested(Some(&[0u8; 4096]), true, values, &mut area);
     let right = say_leaves(rt, after, &area, stated, waiting)?;
     close(rt, right)
 }
@@ -151,7 +151,7 @@ fn merge_trial<'a>(
 fn inserts_before(rt: &impl Print, page: &[u8]) -> io::Result<bool> {
     let value = [7u8; 1332];
     let mut area = [0u8; 16384];
-    let after = digested(Some(page), false, 2, &value, 2, &value, &mut area);
+    let after = digested(Some(page), false, Values::all(2, &value), &mut area);
     say_leaves(rt, after, &area, &[2732, 4092], 0)
 }
 
@@ -160,7 +160,13 @@ fn inserts_before_a_base(rt: &impl Print) -> io::Result<()> {
     print!(rt; "* two of 1,332 before a base of three 1,330  ")?;
     let mut area = [0u8; 16384];
     let value = [7u8; 1330];
-    let base = digested(None, false, 0, &value, 3, &value, &mut area);
+    let values = Values {
+        count: 3,
+        first: 0,
+        value: &value,
+        last: &value,
+    };
+    let base = digested(None, false, values, &mut area);
     let right = inserts_before(rt, &area[0..4096])?;
     close(rt, right & (base.leaves == 1))
 }
@@ -170,7 +176,7 @@ fn short_area(rt: &impl Print) -> io::Result<()> {
     print!(rt; "* the same, four pages asked, area of three  ")?;
     let mut area = [0u8; 12288];
     let value = [7u8; 1332];
-    let after = digested(None, false, 5, &value, 5, &value, &mut area);
+    let after = digested(None, false, Values::all(5, &value), &mut area);
     say_reply(rt, after.refusal)?;
     close(rt, after.refusal == 17)
 }

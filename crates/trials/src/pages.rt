@@ -15,8 +15,7 @@ fn put(page: &mut [u8; 4096], at: usize, x: u8) {
 fn pointer(i: u8) -> usize
     ensures { result < 10000 }
 {
-    let wide = i as usize;
-    34 * wide + 2
+    34 * usize::from(i) + 2
 }
 
 // A page of n records with rising keys and empty values: each offset is the page's end, number bytes 00 10.
@@ -71,7 +70,7 @@ fn build(page: &[u8; 4096], mid: usize) -> Built {
     let mut out = [0xeeu8; 4096];
     let reply = leaf_page_rebuild(page, 1, mid, 2, &mut out);
     Built {
-        reply: reply,
+        reply,
         low: out[34],
         high: out[35],
     }

@@ -1,14 +1,11 @@
 -- `melt_scale::weigh_page` meets its contract. The invariant: `s` is the scale after the first `i` records.
 -- Assumes nothing.
 use Rattle.std.proofs.Common.{rules}
-use Rattle.melt_scale.proofs.Records.{before_the_first, room_on_the_scale, one_record_more, all_records}
+use Rattle.melt_scale.proofs.Records.{before_the_first, one_record_more, all_records}
 use Rattle.melt_scale.proofs.weigh_page.Goals as goal
 
 pub loop-i-init : goal.loop-i-init
 loop-i-init c = search (before_the_first, rules)
-
-pub weigh_record-s-requires : goal.weigh_record-s-requires
-weigh_record-s-requires c = search (room_on_the_scale, rules)
 
 pub loop-i-preserved : goal.loop-i-preserved
 loop-i-preserved c = search (one_record_more, rules)

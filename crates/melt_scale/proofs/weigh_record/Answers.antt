@@ -2,11 +2,8 @@
 -- Assumes nothing.
 use Rattle.std.proofs.Common.{rules}
 use mathlib.Core.Path.{refl}
-use Rattle.melt_scale.proofs.Records.{a_record_can_be_read, a_value_lies_in_its_page, its_end_is_a_place, a_flagged_record_is_skipped, another_tree_is_skipped, the_trees_record_is_weighed}
+use Rattle.melt_scale.proofs.Records.{a_value_lies_in_its_page, its_end_is_a_place, a_flagged_record_is_skipped, another_tree_is_skipped, the_trees_record_is_weighed}
 use Rattle.melt_scale.proofs.weigh_record.Goals as goal
-
-pub cell_at-cell-requires : goal.cell_at-cell-requires
-cell_at-cell-requires c = search (a_record_can_be_read, rules)
 
 pub returns-then-cell : goal.returns-then-cell
 returns-then-cell c =

@@ -24,4 +24,4 @@ loop-i-preserved c = search (one_leaf_more, rules)
 
 pub returns : goal.returns
 returns c =
-    all_leaves c.args.size c.args.pages.now c.args.separators.now c.args.tree.now c.requires c.loop-i.s c.loop-i.i c.loop-i.invariant (search rules)
+    all_leaves c.args.size.bytes c.args.pages.now c.args.separators.now c.args.tree.now c.requires c.loop-i.s c.loop-i.i c.loop-i.invariant (search rules)

@@ -1,4 +1,3 @@
--- src/lib.rt:81:1
 use Rattle.std.proofs.Common.{rules}
 use Rattle.overflow.proofs.Counts.{size_is_tested}
 use Rattle.overflow.proofs.size_right.Goals as goal

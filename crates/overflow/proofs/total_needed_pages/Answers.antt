@@ -1,12 +1,9 @@
--- src/lib.rt:93:27
 use Rattle.std.proofs.Common.{rules}
 use Rattle.overflow.proofs.Counts.{counted_in_the_cell, counted_beyond_the_cell}
 use Rattle.overflow.proofs.total_needed_pages.Goals as goal
 
--- src/lib.rt:93:9
-pub returns-then-size-le61380 : goal.returns-then-size-le61380
-returns-then-size-le61380 c = (search (counted_in_the_cell, rules), search rules)
+pub returns-then-value_size-le61380 : goal.returns-then-value_size-le61380
+returns-then-value_size-le61380 c = (search (counted_in_the_cell, rules), search rules)
 
--- src/lib.rt:88:1
 pub returns : goal.returns
 returns c = (search (counted_beyond_the_cell, rules), search rules)
