@@ -252,7 +252,7 @@ LeafReport leaf_ingest(LeafWork *work, LeafEntry *list, size_t list_len, uint8_t
  * Leaves a work that is done, with list and store all zeros; or one that waits for a merge, with the records that are left as inserts.
  * Refuses by: 1 to 6 for the base's page; 7; 8; 9 when waiting or done; 17 where the area is shorter than LEAF_AREA_ASKED of the pending
  * body or the tickets shorter than LEAF_TICKETS_ASKED, also where it would give no leaf.
- * Stack: 1,984 bytes.
+ * Stack: 2,304 bytes.
  */
 LeafGave leaf_digest(LeafWork *work, LeafEntry *list, size_t list_len, uint8_t *store, size_t store_len,
                      const uint8_t *page, size_t page_len, uint8_t *area, size_t area_len, uint8_t *tickets,
@@ -262,7 +262,7 @@ LeafGave leaf_digest(LeafWork *work, LeafEntry *list, size_t list_len, uint8_t *
  * The next base of a work that waits, or is done and has a cutoff: its separator is at or above that cutoff. The work is then open.
  * Answers 0 or the refusal; changes the work record alone.
  * Refuses by: 1 to 6 for the new page; 7; 8 when waiting or done; 9 when open, or done without a cutoff; 13; 15; 16.
- * Stack: 832 bytes.
+ * Stack: 768 bytes.
  */
 uint8_t leaf_next_base(LeafWork *work, const LeafEntry *list, size_t list_len, const uint8_t *store, size_t store_len,
                        const uint8_t *page, size_t page_len, const uint8_t separator[LEAF_KEY_SIZE], uint8_t cut,
@@ -281,7 +281,7 @@ uint8_t leaf_remove_cutoff(LeafWork *work, const LeafEntry *list, size_t list_le
  * Pending record i, in every turn: the listed ones in order, then the base's rest. The value is len bytes from offset on, of the store or
  * of the base's page, as holder says. Only reads.
  * Refuses by: 1 to 6 for the base's page; 7; 8; 10 where i is not below the number of pending records.
- * Stack: 1,216 bytes.
+ * Stack: 1,152 bytes.
  */
 LeafTwinPlace leaf_twin(LeafWork work, const LeafEntry *list, size_t list_len, const uint8_t *store, size_t store_len,
                         const uint8_t *page, size_t page_len, size_t i);
@@ -378,7 +378,7 @@ uint8_t leaf_page_rebuild(const uint8_t *page, size_t page_len, size_t from, siz
  * bits, each at most 2 to the 40th. The tree's flagged records are skipped, and other trees' records aren't looked at. The total, pieces and sprue, is exact; its product with the factor differs from the exact one
  * by at most one part in 2 to the 53rd of it; melt is the smallest whole number not below the product. Only reads.
  * Refuses by: 1 for pages that aren't 4,096 bytes each with one separator each; 2 to 6 for any page; 18; 19; 20; 24 for a total over 2 to the 40th.
- * Stack: 320 bytes.
+ * Stack: 256 bytes.
  */
 LeafMelt leaf_melt(const uint8_t *pages, size_t pages_len, const uint8_t (*separators)[LEAF_KEY_SIZE],
                    size_t separators_len, const uint8_t tree[LEAF_TREE_SIZE]);

@@ -290,5 +290,5 @@ pub fn leaf_overflow_free(cell: &[u8], pages: &[u8], numbers: &mut [u32]) -> Lea
 pub fn leaf_melt(pages: &[u8], separators: &[[u8; 32]], tree: &[u8; 24]) -> LeafMelt
     ensures { result ≡ melt_of 4096 pages.now separators.now tree.now }
 {
-    melt_sheet::sheet(pages, separators, tree, leaf_node::PAGE_SIZE)
+    melt_sheet::sheet(pages, separators, tree, leaf_node::PAGE)
 }
