@@ -40,7 +40,7 @@ use Rattle.leaf_work.proofs.Operations.{chunk_held, total_append}
 use Rattle.leaf_work.proofs.Laid.{pending_parts}
 use Rattle.leaf_work.proofs.Decoding.{Shape, insert, keep, shape, placed_head}
 use Rattle.leaf_work.proofs.SoundMeans.{Clauses, clauses_of_a_sound_work, a_work_with_all_clauses_is_sound}
-use Rattle.leaf_pass.specs.declared.Pass.{Pass}
+use Rattle.leaf_pass.specs.declared.Tally.{Tally}
 use Rattle.leaf_pass.specs.declared.Bounds.{Bounds}
 use Rattle.leaf_pass.specs.Pass.{is_behind, passed_all, begun}
 use Rattle.leaf_check.specs.Settled.{Regardable, bounds_of, listed_right, waiting_fits, turn_right, room_for, rest_right, pass_right, record_right, within, entries_sound, sound_by}
@@ -141,10 +141,10 @@ module _ (size : ℕ) (q : PageSize size) (w : Work) (list : List Entry) (store 
   rest_length = length_run (count p - w.low) w.low (record_at p)
 
   module _ (fits : w.filled ≤ length store) (low_in : w.low ≤ count p) (used_in : w.used ≤ length list) where
-    abbrev ComeTo : Pass → Type 0
+    abbrev ComeTo : Tally → Type 0
     ComeTo y = Come b p size refl store fits low_in (base_laid size q p g) (base_rises size q p g) (base_fitting size q p g) (begun sep) es y
 
-    module _ (y : Pass) (c : ComeTo y) where
+    module _ (y : Tally) (c : ComeTo y) where
       count_is : y.count ≡ length L
       count_is = omega (arith, c.counted)
 
@@ -371,16 +371,16 @@ module _ (size : ℕ) (q : PageSize size) (w : Work) (list : List Entry) (store 
 
   -- ---- both ways
 
-  abbrev whole : std.Option Pass
+  abbrev whole : std.Option Tally
   whole = passed_all b p (begun sep) list
 
   the_whole : whole ≡ option_and_then (λ y. passed_all b p y (drop w.used list)) (passed_all b p (begun sep) es)
   the_whole = ap (λ (xs : List Entry). passed_all b p (begun sep) xs) (sym (take-append-drop w.used list)) ∙ passed_append b p (begun sep) es (drop w.used list)
 
-  abbrev settled : std.Option Pass → Bool
+  abbrev settled : std.Option Tally → Bool
   settled o = option_map_or (λ z. pass_right size w z p (length list) (length store)) o false
 
-  settled_by : (o : std.Option Pass) → settled o ≡ true → (z : Pass) × (o ≡ Some z) × (pass_right size w z p (length list) (length store) ≡ true)
+  settled_by : (o : std.Option Tally) → settled o ≡ true → (z : Tally) × (o ≡ Some z) × (pass_right size w z p (length list) (length store) ≡ true)
   settled_by None h = absurd (false≢true h)
   settled_by (Some z) h = (z, refl, h)
 
@@ -398,14 +398,14 @@ module _ (size : ℕ) (q : PageSize size) (w : Work) (list : List Entry) (store 
       (leb-true _ _ (and_right (leb w.filled (length store)) (leb w.low (count p)) i₁)) (and_left (record_right w) _ h) (and_left clear _ h₂) end.0 end.1 end.2
     where
       from_pass : w.used ≤ length list → w.filled ≤ length store → w.low ≤ count p → record_right w ≡ true → every is_zero (drop w.filled store) ≡ true
-          → (z : Pass) → whole ≡ Some z → pass_right size w z p (length list) (length store) ≡ true → Clauses size w list store p
+          → (z : Tally) → whole ≡ Some z → pass_right size w z p (length list) (length store) ≡ true → Clauses size w list store p
       from_pass used_in fits low_in r zs z wr st =
           option_and_then_some (λ y. passed_all b p y (drop w.used list)) (passed_all b p (begun sep) es) z (sym the_whole ∙ wr) (λ y first others.
           let long : length es ≡ w.used = length-take-le w.used list used_in in
           let walk = walked b p (begun sep) y es (omega (arith, long)) first in
           let c : ComeTo fits low_in used_in y = come b p size refl store fits low_in (base_laid size q p g) (base_rises size q p g) (base_fitting size q p g) walk in
           let bl = cond_some (every is_blank (drop w.used list)) y z (sym (blanks_pass b p y (omega (arith, c.seen, long)) (drop w.used list)) ∙ others) in
-          clauses fits low_in used_in y c bl.0 zs r (subst (λ (x : Pass). pass_right size w x p (length list) (length store) ≡ true) (sym bl.1) st))
+          clauses fits low_in used_in y c bl.0 zs r (subst (λ (x : Tally). pass_right size w x p (length list) (length store) ≡ true) (sym bl.1) st))
 
   by_pass : Clauses size w list store p → sound_by size w list store p ≡ true
   unfolding sound_by entries_sound record_right

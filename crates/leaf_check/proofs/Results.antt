@@ -2,21 +2,21 @@
 use mathlib.Core.Path.{◌≡◌, refl}
 use mathlib.Core.Bool.{Bool, not, ◌&&◌, ◌||◌}
 use mathlib.Core.List.{List, [], ◌∷◌}
-use Prim.Native.Nat.{ℕ, ◌+◌, ◌-◌, ◌*◌, ◌^◌, ◌≤◌, ◌<◌}
+use Prim.Native.Nat.{ℕ, ◌+◌, ◌-◌, ◌*◌, ◌≤◌, ◌<◌}
 use lib.Dec.{eqb, leb, ltb}
 use lib.ListN.{length}
 use native.Mathlib.Omega.{arith}
 use borrow.Author.Tests.{lt-ltb, le-ltb}
 use Rattle.leaf_node.specs.Limits.{merge_below}
 use Rattle.leaf_node.specs.Page.{word, count, key_at, values_size}
+use Rattle.leaf_node.specs.Steps.{Counted}
 use Rattle.leaf_model.specs.Work.{above_last, below_cutoff}
 use Rattle.leaf_work.specs.declared.Work.{Work}
 use Rattle.leaf_work.specs.Tests.{implies, is_zero, is_set}
 use Rattle.leaf_work.specs.Lent.{last_of, cutoff_of}
 use Rattle.leaf_work.specs.Sound.{lets_in, known_turn, known_flags, last_below, cutoff_right, floor_above, floor_at_turn, absent_zero}
-use Rattle.leaf_pass.specs.declared.Pass.{Pass}
-use Rattle.leaf_pass.specs.declared.Bounds.{Bounds}
-use Rattle.leaf_pass.specs.Pass.{Seeing, Small, is_behind}
+use Rattle.leaf_pass.specs.declared.Tally.{Tally}
+use Rattle.leaf_pass.specs.Pass.{is_behind}
 use Rattle.leaf_check.specs.Settled.{listed_right, waiting_fits, turn_right, room_for, rest_right, pass_right, record_right}
 
 -- ---- the work record
@@ -29,7 +29,7 @@ module _ (w : Work) where
 
 -- ---- what the entries come to
 
-module _ (w : Work) (z : Pass) where
+module _ (w : Work) (z : Tally) where
   pub listed_by : (a : Bool) → a ≡ lets_in w z.last
       → (eqb w.filled z.end && (eqb w.count z.count && (eqb w.bytes z.bytes && (eqb z.count 0 || not a)))) ≡ listed_right w z
   unfolding listed_right
@@ -45,27 +45,24 @@ module _ (w : Work) (z : Pass) where
   unfolding turn_right
   turn_by size n a b c d e f g h = rw (e, g, f, h)
 
-  module _ (b : Bounds) (page : List ℕ) (n : ℕ) (v : Seeing b page n) where
+  module _ (page : List ℕ) (n : ℕ) (c : Counted page n) where
     pub room_by : (entries bytes rest : ℕ) → rest ≡ values_size page w.low n → (leb (z.count + (n - w.low)) entries && leb (z.bytes + rest) bytes) ≡ room_for w z page entries bytes
     unfolding room_for
-    room_by entries bytes rest e = rw (e, ← v.counted)
-
-    pub rest_few : (rest : ℕ) → rest ≤ length page → Small b z → z.bytes + rest < 2 ^ 63
-    rest_few rest h s = omega (arith, v.short, v.used_few, s.seen, s.bytes)
+    room_by entries bytes rest e = rw (e, ← c.counted)
 
     pub rest_none : (a : Bool) → n ≤ w.low → a ≡ (is_zero z.count || below_cutoff (cutoff_of w) z.last) → a ≡ rest_right w z page
     unfolding rest_right
-    rest_none a h e = rw (le-ltb w.low (count page) (omega (arith, v.counted)), rest_right, e)
+    rest_none a h e = rw (le-ltb w.low (count page) (omega (arith, c.counted)), rest_right, e)
 
     pub rest_by : (x y : List ℕ) (p q r : Bool) → w.low < n → x ≡ key_at page w.low → y ≡ key_at page (n - 1) → p ≡ is_behind z.count z.last x → q ≡ above_last (last_of w) x
         → r ≡ below_cutoff (cutoff_of w) y → (p && (q && r)) ≡ rest_right w z page
     unfolding rest_right
-    rest_by x y p q r h e f g k l = rw (lt-ltb w.low (count page) (omega (arith, v.counted)), rest_right, g, k, l, e, f, ← v.counted)
+    rest_by x y p q r h e f g k l = rw (lt-ltb w.low (count page) (omega (arith, c.counted)), rest_right, g, k, l, e, f, ← c.counted)
 
     pub pass_right_by : (size entries bytes : ℕ) (p q r s : Bool) → p ≡ listed_right w z → q ≡ turn_right size w z n → r ≡ room_for w z page entries bytes → s ≡ rest_right w z page
         → (p && (q && (r && s))) ≡ pass_right size w z page entries bytes
     unfolding pass_right
-    pass_right_by size entries bytes p q r s e f g h = rw (e, f, g, h, ← v.counted)
+    pass_right_by size entries bytes p q r s e f g h = rw (e, f, g, h, ← c.counted)
 
 -- ---- the page
 

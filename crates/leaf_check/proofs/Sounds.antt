@@ -15,7 +15,7 @@ use Rattle.leaf_work.specs.declared.Entry.{Entry}
 use Rattle.leaf_work.specs.Tests.{every, is_zero}
 use Rattle.leaf_work.specs.Lent.{separator_of}
 use Rattle.leaf_work.specs.Sound.{sound}
-use Rattle.leaf_pass.specs.declared.Pass.{Pass}
+use Rattle.leaf_pass.specs.declared.Tally.{Tally}
 use Rattle.leaf_pass.specs.declared.Bounds.{Bounds}
 use Rattle.leaf_pass.specs.Pass.{passed_all, begun}
 use Rattle.leaf_check.specs.Settled.{Regardable, bounds_of, pass_right, record_right, entries_sound, sound_by}
@@ -48,8 +48,8 @@ module _ (size : ℕ) (q : PageSize size) (w : Work) (list : List Entry) (store 
         the_entries_decide a j v = rw (← decided, ← e, not-false t h, ← c, not-false (inside n) i, ← f, not-false s j) v
 
 -- what the entries come to
-module _ (size : ℕ) (w : Work) (list : List Entry) (p : List ℕ) (bytes : ℕ) (b : Bounds) (k : b ≡ bounds_of size w) (x : Pass)
-    (o : x ≡ begun (separator_of w)) (r : Option Pass) (m : r ≡ passed_all b p x list) where
+module _ (size : ℕ) (w : Work) (list : List Entry) (p : List ℕ) (bytes : ℕ) (b : Bounds) (k : b ≡ bounds_of size w) (x : Tally)
+    (o : x ≡ begun (separator_of w)) (r : Option Tally) (m : r ≡ passed_all b p x list) where
   whole_is : entries_sound size w list p bytes ≡ option_map_or (λ z. pass_right size w z p (length list) bytes) r false
   unfolding entries_sound
   whole_is = rw (m, k, o)
@@ -57,5 +57,5 @@ module _ (size : ℕ) (w : Work) (list : List Entry) (p : List ℕ) (bytes : ℕ
   pub a_wrong_entry : r ≡ None → false ≡ entries_sound size w list p bytes
   a_wrong_entry n = sym (rw n at whole_is)
 
-  pub settles : (z : Pass) (a : Bool) → r ≡ Some z → a ≡ pass_right size w z p (length list) bytes → a ≡ entries_sound size w list p bytes
+  pub settles : (z : Tally) (a : Bool) → r ≡ Some z → a ≡ pass_right size w z p (length list) bytes → a ≡ entries_sound size w list p bytes
   settles z a n v = v ∙ sym (rw n at whole_is)

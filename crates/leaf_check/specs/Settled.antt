@@ -11,7 +11,7 @@ use Rattle.leaf_work.specs.declared.Entry.{Entry}
 use Rattle.leaf_work.specs.Tests.{every, implies, is_zero, is_set}
 use Rattle.leaf_work.specs.Lent.{is_waiting, is_done, cutoff_of, last_of, separator_of}
 use Rattle.leaf_work.specs.Sound.{lets_in, known_turn, known_flags, last_below, cutoff_right, floor_above, floor_at_turn, absent_zero}
-use Rattle.leaf_pass.specs.declared.Pass.{Pass}
+use Rattle.leaf_pass.specs.declared.Tally.{Tally}
 use Rattle.leaf_pass.specs.declared.Bounds.{Bounds}
 use Rattle.leaf_pass.specs.Pass.{is_behind, passed_all, begun}
 
@@ -25,27 +25,27 @@ bounds_of size w = record { used = w.used; filled = w.filled; low = w.low; most 
 -- ---- what the entries come to
 
 -- the values end where the work record says, the gauge agrees, and the last listed key is not let in
-unfoldable pub listed_right : Work → Pass → Bool
+unfoldable pub listed_right : Work → Tally → Bool
 listed_right w z =
     eqb w.filled z.end && (eqb w.count z.count && (eqb w.bytes z.bytes && (is_zero z.count || not (lets_in w z.last))))
 
 -- a waiting work
-unfoldable pub waiting_fits : ℕ → Work → Pass → Bool
+unfoldable pub waiting_fits : ℕ → Work → Tally → Bool
 waiting_fits size w z =
     eqb z.inserts w.used && (is_set w.over && (is_set w.cut && (ltb 0 (34 * z.count + z.bytes) && ltb (34 * z.count + z.bytes) (merge_below size))))
 
 -- override, waiting, done; the base has n records
-unfoldable pub turn_right : ℕ → Work → Pass → ℕ → Bool
+unfoldable pub turn_right : ℕ → Work → Tally → ℕ → Bool
 turn_right size w z n =
     implies (is_set w.over) (ltb 0 z.inserts) && (implies (is_waiting w) (waiting_fits size w z) && implies (is_done w) (is_zero z.count && leb n w.low))
 
 -- room for what is pending
-unfoldable pub room_for : Work → Pass → List ℕ → ℕ → ℕ → Bool
+unfoldable pub room_for : Work → Tally → List ℕ → ℕ → ℕ → Bool
 room_for w z page entries bytes =
     leb (z.count + (count page - w.low)) entries && leb (z.bytes + values_size page w.low (count page)) bytes
 
 -- the base's rest stands behind the list and above the last key taken; the last pending key is below the cutoff
-unfoldable pub rest_right : Work → Pass → List ℕ → Bool
+unfoldable pub rest_right : Work → Tally → List ℕ → Bool
 rest_right w z page = elim (ltb w.low (count page)) [
   | true ↦ is_behind z.count z.last (key_at page w.low)
       && (above_last (last_of w) (key_at page w.low) && below_cutoff (cutoff_of w) (key_at page (count page - 1)))
@@ -53,7 +53,7 @@ rest_right w z page = elim (ltb w.low (count page)) [
 ]
 
 -- the entries come to what the work record says
-unfoldable pub pass_right : ℕ → Work → Pass → List ℕ → ℕ → ℕ → Bool
+unfoldable pub pass_right : ℕ → Work → Tally → List ℕ → ℕ → ℕ → Bool
 pass_right size w z page entries bytes =
     listed_right w z && (turn_right size w z (count page) && (room_for w z page entries bytes && rest_right w z page))
 

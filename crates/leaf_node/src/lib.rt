@@ -30,7 +30,7 @@ pub use records::LeafNode;
 use refusal::Refusal;
 pub use size::Size;
 
-// The page size of the public calls; every other function takes the size that the page has.
+// The page size of the calls and of a row's turns; every other function takes the size that the page has.
 pub const PAGE_SIZE: usize = 4096;
 
 pub const PAGE: Size = Size { bytes: PAGE_SIZE };
@@ -77,7 +77,8 @@ fn offset_at(page: &[u8], i: usize) -> usize
     number_at(page, i) % 32768
 }
 
-// Where value i of n begins, which is where value i - 1 ends.
+// Where value i of n begins, which is where value i - 1 ends. The page stands beside its count, as in the check and the search below: a
+// page that is asked may not be known to be a `LeafNode` yet.
 pub fn start_at(page: &[u8], n: usize, i: usize) -> usize
     requires { (Pointed page.now n) × (i ≤ n) }
     ensures { (result ≡ start page.now i) × (result < 2 ^ 63) }
@@ -115,8 +116,6 @@ pub fn cell_at(page: &[u8], i: usize) -> Cell
 }
 
 // ---- the check of a page, rule by rule
-
-// These and the search take a page beside its count: they find out what makes a `LeafNode` of the two, or are bodies of its methods.
 
 // Offsets never fall, the first lies behind the pointers, and none passes the page's end.
 fn offsets_right(page: &[u8], n: usize) -> bool
@@ -204,7 +203,8 @@ pub fn copy_in(src: &[u8], dst: &mut [u8], at: usize)
     dst[at..at + src.len()].copy_from_slice(src);
 }
 
-// The value bytes of records `from` up to `to`: their values lie one after the other.
+// The value bytes of records `from` up to `to`: their values lie one after the other. The method's body, and public for pages that callers
+// know less of than a `LeafNode` says.
 pub fn size_between(page: &[u8], n: usize, from: usize, to: usize) -> usize
     requires { (Laid page.now n) × (from ≤ to) × (to ≤ n) }
     ensures { (result ≡ values_size page.now from to) × (result ≤ length page.now) }

@@ -32,13 +32,10 @@ impl<'a> LeafNode<'a> {
     }
 
     // A page that is ignored, whatever it holds.
-    pub fn ignored(page: &'a [u8]) -> LeafNode<'a>
+    pub fn ignored() -> LeafNode<'a>
         ensures { (result.page.now ≡ []) × (result.n ≡ 0) }
     {
-        LeafNode {
-            page: &page[..0],
-            n: 0,
-        }
+        LeafNode { page: &[], n: 0 }
     }
 
     // Key i.

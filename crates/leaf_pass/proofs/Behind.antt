@@ -1,6 +1,6 @@
 -- The entries behind the used ones: the pass over all entries comes to what the pass over the used ones and the look at the others come to.
 -- Assumes nothing.
-use mathlib.Core.Path.{◌≡◌, refl, sym, ◌∙◌}
+use mathlib.Core.Path.{◌≡◌, refl, sym, ap, ◌∙◌}
 use mathlib.Core.Bool.{Bool, true, false, ◌&&◌, cond}
 use mathlib.Core.List.{List, [], ◌∷◌}
 use Prim.Native.Nat.{ℕ, zero, suc, ◌+◌, ◌-◌, ◌≤◌, ◌<◌, min}
@@ -10,6 +10,7 @@ use lib.ListN.{length, length-drop, take, drop}
 use lib.Seq.{take_all}
 use Rattle.std.specs.Bool.{then_some}
 use Rattle.std.specs.List.{list_all}
+use Rattle.std.specs.Option.{option_map}
 use Rattle.std.specs.Prelude.{Option, Some, None, option_and_then}
 use Rattle.std.proofs.lemmas.Option.{cond_some}
 use borrow.Author.Tests.{le-ltb, ltb-false}
@@ -17,13 +18,15 @@ use Rattle.leaf_work.specs.declared.Entry.{Entry}
 use Rattle.leaf_work.specs.Tests.{every}
 use Rattle.leaf_work.specs.Lent.{an_insert}
 use Rattle.leaf_work.specs.Sound.{is_blank}
+use Rattle.leaf_pass.specs.declared.Tally.{Tally}
 use Rattle.leaf_pass.specs.declared.Pass.{Pass}
 use Rattle.leaf_pass.specs.declared.Bounds.{Bounds}
 use Rattle.leaf_pass.specs.Pass.{insert_right, chunk_right, with_insert, with_chunk, passed_by, passed, passed_all}
+use Rattle.leaf_pass.proofs.Entries.{tallied}
 
 module _ (b : Bounds) (page : List ℕ) where
   -- behind the used ones the pass stays what it is
-  pub blanks_pass : (z : Pass) → b.used ≤ z.seen → (list : List Entry) → passed_all b page z list ≡ cond (every is_blank list) (Some z) None
+  pub blanks_pass : (z : Tally) → b.used ≤ z.seen → (list : List Entry) → passed_all b page z list ≡ cond (every is_blank list) (Some z) None
   unfolding passed
   blanks_pass z h [] = refl
   blanks_pass z h (e ∷ es) = rw (le-ltb z.seen b.used h) (go (blanks_pass z h es) (is_blank e) refl)
@@ -34,11 +37,11 @@ module _ (b : Bounds) (page : List ℕ) where
       go more false f = refl
 
   -- of an entry that is right: one more is seen, or all used ones were seen before
-  grows : (z y : Pass) (e : Entry) → passed b page z e ≡ Some y → (k : ℕ) → b.used ≤ z.seen + suc k → b.used ≤ y.seen + k
+  grows : (z y : Tally) (e : Entry) → passed b page z e ≡ Some y → (k : ℕ) → b.used ≤ z.seen + suc k → b.used ≤ y.seen + k
   unfolding passed
   grows z y e h k m = go (ltb z.seen b.used) refl (an_insert e) h
     where
-      enough : (x : Pass) → x ≡ y → b.used ≤ x.seen + k → b.used ≤ y.seen + k
+      enough : (x : Tally) → x ≡ y → b.used ≤ x.seen + k → b.used ≤ y.seen + k
       enough x q l = rw (← q) l
 
       go : (t : Bool) → ltb z.seen b.used ≡ t → (i : Bool) → passed_by b page z e t i ≡ Some y → b.used ≤ y.seen + k
@@ -47,14 +50,14 @@ module _ (b : Bounds) (page : List ℕ) where
       go true q false p = enough (with_chunk page z e) (cond_some (chunk_right b page z e) (with_chunk page z e) y p).1 (omega (arith, m))
 
   -- the first k, then the others
-  in_two : (k : ℕ) (z : Pass) (list : List Entry) → (k < length list → b.used ≤ z.seen + k)
+  in_two : (k : ℕ) (z : Tally) (list : List Entry) → (k < length list → b.used ≤ z.seen + k)
       → passed_all b page z list ≡ option_and_then (λ y. cond (every is_blank (drop k list)) (Some y) None) (passed_all b page z (take k list))
   in_two zero z [] h = refl
   in_two (suc k) z [] h = refl
   in_two zero z (e ∷ es) h = blanks_pass z (omega (arith, h (omega arith))) (e ∷ es)
   in_two (suc k) z (e ∷ es) h = go (passed b page z e) (λ y q. in_two k y es (λ l. grows z y e q k (h (omega (arith, l)))))
     where
-      go : (o : Option Pass) → ((y : Pass) → o ≡ Some y → passed_all b page y es ≡ option_and_then (λ x. cond (every is_blank (drop k es)) (Some x) None) (passed_all b page y (take k es)))
+      go : (o : Option Tally) → ((y : Tally) → o ≡ Some y → passed_all b page y es ≡ option_and_then (λ x. cond (every is_blank (drop k es)) (Some x) None) (passed_all b page y (take k es)))
           → option_and_then (λ y. passed_all b page y es) o
           ≡ option_and_then (λ y. cond (every is_blank (drop k es)) (Some y) None) (option_and_then (λ y. passed_all b page y (take k es)) o)
       go None ih = refl
@@ -70,7 +73,7 @@ every_all (e ∷ es) = go (is_blank e) (every_all es)
     go true h = h
     go false h = refl
 
-module _ (b : Bounds) (page : List ℕ) (start : Pass) (list : List Entry) (n : ℕ) (m : n ≡ min b.used (length list)) (o : Option Pass)
+module _ (b : Bounds) (page : List ℕ) (start : Tally) (list : List Entry) (n : ℕ) (m : n ≡ min b.used (length list)) (o : Option Tally)
     (e : o ≡ passed_all b page start (take n list)) where
   pub the_pass_over_all : (t : Bool) → t ≡ list_all is_blank (take (length list - n) (drop n list))
       → passed_all b page start list ≡ option_and_then (λ y. cond t (Some y) None) o
@@ -79,13 +82,12 @@ module _ (b : Bounds) (page : List ℕ) (start : Pass) (list : List Entry) (n : 
       let look : t ≡ every is_blank (drop n list) = rw all at q ∙ every_all (drop n list) in
       rw (e, look) (in_two b page n start list (λ l. omega (arith, m)))
 
-  pub a_wrong_used_one : (r : Option Pass) → o ≡ None → r ≡ None → r ≡ passed_all b page start list
-  a_wrong_used_one r h f = f ∙ sym (rw h at the_pass_over_all _ refl)
+module _ (b : Bounds) (page : List ℕ) (start : Tally) (list : List Entry) (n : ℕ) (m : n ≡ min b.used (length list)) (o : Option Pass)
+    (e : option_map (λ y. y.tally) o ≡ passed_all b page start (take n list)) where
+  pub a_wrong_used_one : (r : Option Pass) → o ≡ None → r ≡ None → option_map (λ y. y.tally) r ≡ passed_all b page start list
+  a_wrong_used_one r h f = rw (f, the_pass_over_all b page start list n m (option_map (λ (y : Pass). y.tally) o) e _ refl, h)
 
   pub the_others_decide : (z : Pass) (t : Bool) (r : Option Pass) → o ≡ Some z → t ≡ list_all is_blank (take (length list - n) (drop n list)) → r ≡ then_some t z
-      → r ≡ passed_all b page start list
-  the_others_decide z t r h q f = f ∙ go t ∙ sym (rw h at the_pass_over_all t q)
-    where
-      go : (x : Bool) → then_some x z ≡ cond x (Some z) None
-      go true = refl
-      go false = refl
+      → option_map (λ y. y.tally) r ≡ passed_all b page start list
+  the_others_decide z t r h q f =
+      ap (option_map (λ (y : Pass). y.tally)) f ∙ tallied t z ∙ sym (rw h at (the_pass_over_all b page start list n m (option_map (λ (y : Pass). y.tally) o) e t q))

@@ -28,7 +28,7 @@ use Rattle.leaf_work.specs.Sound.{is_flag, is_insert, is_chunk, is_operation, pl
 use Rattle.leaf_work.proofs.Tests.{and_both, bit_small, map-append}
 use Rattle.leaf_work.proofs.Operations.{chunk_held, total_append}
 use Rattle.leaf_work.proofs.Decoding.{Shape, insert, keep, placed_head, placed_upto, value_long}
-use Rattle.leaf_pass.specs.declared.Pass.{Pass}
+use Rattle.leaf_pass.specs.declared.Tally.{Tally}
 use Rattle.leaf_pass.specs.declared.Bounds.{Bounds}
 use Rattle.leaf_pass.specs.Pass.{is_behind, insert_right, chunk_lies, chunk_right, with_insert, with_chunk, insert_passed, chunk_passed, passed, passed_all}
 use Rattle.leaf_pass.proofs.Entries.{by_tests, places_of_a_chunk, place_of_an_insert}
@@ -40,18 +40,18 @@ inserts_in [] = 0
 inserts_in (e ∷ es) = elim (an_insert e) [ true ↦ suc (inserts_in es) | false ↦ inserts_in es ]
 
 module _ (b : Bounds) (p : List ℕ) where
-  pub passed_append : (z : Pass) (xs ys : List Entry) → passed_all b p z (xs ++ ys) ≡ option_and_then (λ y. passed_all b p y ys) (passed_all b p z xs)
+  pub passed_append : (z : Tally) (xs ys : List Entry) → passed_all b p z (xs ++ ys) ≡ option_and_then (λ y. passed_all b p y ys) (passed_all b p z xs)
   passed_append z [] ys = refl
   passed_append z (x ∷ xs) ys = go (λ y. passed_append y xs ys) (passed b p z x)
     where
-      go : ((y : Pass) → passed_all b p y (xs ++ ys) ≡ option_and_then (λ z. passed_all b p z ys) (passed_all b p y xs)) → (o : Option Pass)
+      go : ((y : Tally) → passed_all b p y (xs ++ ys) ≡ option_and_then (λ z. passed_all b p z ys) (passed_all b p y xs)) → (o : Option Tally)
           → option_and_then (λ y. passed_all b p y (xs ++ ys)) o ≡ option_and_then (λ y. passed_all b p y ys) (option_and_then (λ y. passed_all b p y xs) o)
       go ih None = refl
       go ih (Some y) = ih y
 
   -- ---- one entry among the used ones
 
-  module _ (z : Pass) (e : Entry) (l : z.seen < b.used) where
+  module _ (z : Tally) (e : Entry) (l : z.seen < b.used) where
     insert_next : an_insert e ≡ true → passed b p z e ≡ insert_passed b z e
     insert_next k = by_tests b p z e (lt-ltb z.seen b.used l) k
 
@@ -60,18 +60,18 @@ module _ (b : Bounds) (p : List ℕ) where
 
   -- ---- the used ones
 
-  pub data Walk : Pass → List Entry → Pass → Type 0 where
-    stop : {z : Pass} → Walk z [] z
-    take_insert : {z y : Pass} {e : Entry} {es : List Entry} → an_insert e ≡ true → insert_right b z e ≡ true → Walk (with_insert z e) es y → Walk z (e ∷ es) y
-    take_chunk : {z y : Pass} {e : Entry} {es : List Entry} → an_insert e ≡ false → chunk_right b p z e ≡ true → Walk (with_chunk p z e) es y → Walk z (e ∷ es) y
+  pub data Walk : Tally → List Entry → Tally → Type 0 where
+    stop : {z : Tally} → Walk z [] z
+    take_insert : {z y : Tally} {e : Entry} {es : List Entry} → an_insert e ≡ true → insert_right b z e ≡ true → Walk (with_insert z e) es y → Walk z (e ∷ es) y
+    take_chunk : {z y : Tally} {e : Entry} {es : List Entry} → an_insert e ≡ false → chunk_right b p z e ≡ true → Walk (with_chunk p z e) es y → Walk z (e ∷ es) y
 
-  pub walked : (z y : Pass) (es : List Entry) → z.seen + length es ≤ b.used → passed_all b p z es ≡ Some y → Walk z es y
+  pub walked : (z y : Tally) (es : List Entry) → z.seen + length es ≤ b.used → passed_all b p z es ≡ Some y → Walk z es y
   walked z y [] l h = subst (Walk z []) (same_Some z y h) stop
   walked z y (e ∷ es) l h =
       option_and_then_some (λ x. passed_all b p x es) (passed b p z e) y h (λ x. go (walked (with_insert z e) y es (omega arith)) (walked (with_chunk p z e) y es (omega arith)) x (an_insert e) refl)
     where
       go : (passed_all b p (with_insert z e) es ≡ Some y → Walk (with_insert z e) es y) → (passed_all b p (with_chunk p z e) es ≡ Some y → Walk (with_chunk p z e) es y)
-          → (x : Pass) (t : Bool) → an_insert e ≡ t → passed b p z e ≡ Some x → passed_all b p x es ≡ Some y → Walk z (e ∷ es) y
+          → (x : Tally) (t : Bool) → an_insert e ≡ t → passed b p z e ≡ Some x → passed_all b p x es ≡ Some y → Walk z (e ∷ es) y
       go ih jh x true k q r =
           let f = cond_some (insert_right b z e) (with_insert z e) x (sym (insert_next z e (omega arith) k) ∙ q) in
           take_insert k f.0 (ih (rw f.1 r))
@@ -79,7 +79,7 @@ module _ (b : Bounds) (p : List ℕ) where
           let f = cond_some (chunk_right b p z e) (with_chunk p z e) x (sym (chunk_next z e (omega arith) k) ∙ q) in
           take_chunk k f.0 (jh (rw f.1 r))
 
-  pub walk_is_the_pass : {z y : Pass} {es : List Entry} → Walk z es y → z.seen + length es ≤ b.used → passed_all b p z es ≡ Some y
+  pub walk_is_the_pass : {z y : Tally} {es : List Entry} → Walk z es y → z.seen + length es ≤ b.used → passed_all b p z es ≡ Some y
   walk_is_the_pass stop l = refl
   walk_is_the_pass (take_insert {z} {y} {e} {es} k f w) l = rw (insert_next z e (omega arith) k, f) (walk_is_the_pass w (omega arith))
   walk_is_the_pass (take_chunk {z} {y} {e} {es} k f w) l = rw (chunk_next z e (omega arith) k, f) (walk_is_the_pass w (omega arith))
@@ -109,7 +109,7 @@ module _ (b : Bounds) (p : List ℕ) where
     keep_records e es k =
         map-append (held store p) (entry_places p e) (places_of p es) ∙ rw (k, entry_places, chunk_held store p e.from e.to)
 
-    pub record Come (z : Pass) (es : List Entry) (y : Pass) : Type 0 where
+    pub record Come (z : Tally) (es : List Entry) (y : Tally) : Type 0 where
       pub seen : y.seen ≡ z.seen + length es
       pub ops : every (is_operation b.low p) es ≡ true
       pub ends : placed y.end z.end es ≡ true
@@ -136,7 +136,7 @@ module _ (b : Bounds) (p : List ℕ) where
         and_both (and_left (eqb e.kind 2) _ g)
         (and_both (and_both (and_left (ltb e.from e.to) _ g₁) (and_left (leb e.to b.low) _ g₂)) (and_both h g₃))
 
-    module _ {z y : Pass} {e : Entry} {es : List Entry} where
+    module _ {z y : Tally} {e : Entry} {es : List Entry} where
       come_insert : an_insert e ≡ true → insert_right b z e ≡ true → Come (with_insert z e) es y → Come z (e ∷ es) y
       unfolding insert_right total put_record
       come_insert k f c =
@@ -189,7 +189,7 @@ module _ (b : Bounds) (p : List ℕ) where
             inserted = rw (k, inserts_in) (omega (arith, c.inserted));
           }
 
-    pub come : {z y : Pass} {es : List Entry} → Walk z es y → Come z es y
+    pub come : {z y : Tally} {es : List Entry} → Walk z es y → Come z es y
     unfolding total
     come {z} stop = record {
       seen = omega arith;
@@ -213,7 +213,7 @@ module _ (b : Bounds) (p : List ℕ) where
     tail_fitting : {x : Record} {xs : List Record} → All Fitting (x ∷ xs) → All Fitting xs
     tail_fitting (cons a az) = az
 
-    module _ (z : Pass) {es : List Entry} (ss : All (Shape b.low p) es) where
+    module _ (z : Tally) {es : List Entry} (ss : All (Shape b.low p) es) where
       module _ (from to : ℕ) (key : List ℕ) (flag : Bool) (o : from ≤ to) (h : placed b.filled z.end (insert_at from to key (bit flag) ∷ es) ≡ true)
           (li : All Fitting (recs (insert_at from to key (bit flag) ∷ es))) (ri : rises (is_some z.count) z.last (recs (insert_at from to key (bit flag) ∷ es)) ≡ true) where
         abbrev e₁ : Entry
@@ -275,8 +275,8 @@ module _ (b : Bounds) (p : List ℕ) where
             let again : (is_some z.count || nonempty cs) ≡ is_some (z.count + (to - from)) = rw (between_some p rise from to l to_in, some_more z.count (to - from) (omega arith)) (or-true (is_some z.count)) in
             rw (← again, ← between_last p rise from to l to_in z.last) (rises_right (is_some z.count) z.last cs (recs es) ri₂)
 
-    pub to_walk : (z : Pass) {es : List Entry} → All (Shape b.low p) es → placed b.filled z.end es ≡ true → All Fitting (recs es)
-        → rises (is_some z.count) z.last (recs es) ≡ true → (y : Pass) × Walk z es y
+    pub to_walk : (z : Tally) {es : List Entry} → All (Shape b.low p) es → placed b.filled z.end es ≡ true → All Fitting (recs es)
+        → rises (is_some z.count) z.last (recs es) ≡ true → (y : Tally) × Walk z es y
     to_walk z nil h li ri = (z, stop)
     to_walk z (cons {xs = es} (insert from to key flag o) ss) h li ri =
         let r = to_walk (with_insert z (insert_at from to key (bit flag))) ss (next_placed z ss from to key flag o h li ri) (tail_fitting (li₁ z ss from to key flag o h li ri)) (next_rising z ss from to key flag o h li ri) in

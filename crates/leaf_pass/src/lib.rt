@@ -2,12 +2,12 @@
 #![tactic(auto)]
 
 ghost use Rattle.std.specs.List.{list_all};
-ghost use Rattle.std.specs.Prelude.{◌≡◌, ◌==◌, ◌+◌, ◌-◌, ◌≤◌, ◌<◌, length, get_or, take, drop, IfSome};
-ghost use Rattle.leaf_node.specs.Page.{count};
+ghost use Rattle.std.specs.Option.{option_map};
+ghost use Rattle.std.specs.Prelude.{◌≡◌, ◌==◌, ◌+◌, ◌≤◌, ◌<◌, length, take, drop};
 ghost use Rattle.leaf_model.specs.Work.{zero_key};
 ghost use Rattle.leaf_work.specs.Tests.{every, is_zero, same_bytes};
 ghost use Rattle.leaf_work.specs.Sound.{is_blank};
-ghost use Rattle.leaf_pass.specs.Pass.{Seeing, Small, is_behind, insert_right, chunk_lies, chunk_right, with_insert, with_chunk, insert_passed, chunk_passed, blank_passed, passed, passed_all};
+ghost use Rattle.leaf_pass.specs.Pass.{Seeing, Small, is_behind, insert_right, chunk_lies, chunk_right, insert_passed, chunk_passed, passed, passed_all};
 
 use bit_ops::{less, word_from};
 use leaf_node::LeafNode;
@@ -15,7 +15,7 @@ use leaf_work::Entry;
 
 // What the pass over the list knows of the entries that it has seen, none of which was wrong.
 #[derive(Clone, Copy)]
-pub struct Pass {
+pub struct Tally {
     pub seen: usize,
     // how many are inserts, and where the next one's value must begin
     pub inserts: usize,
@@ -27,6 +27,13 @@ pub struct Pass {
     pub last: [u8; 32],
 }
 
+// A pass so far, none of whose numbers comes near the largest.
+#[derive(Clone, Copy)]
+pub struct Pass {
+    pub tally: Tally,
+    pub ghost small: { Small tally },
+}
+
 // What the work record says of its entries, and the longest value.
 #[derive(Clone, Copy)]
 pub struct Bounds {
@@ -34,6 +41,14 @@ pub struct Bounds {
     pub filled: usize,
     pub low: usize,
     pub most: usize,
+}
+
+// What entries are held against: the bounds, and the base, of which the passed part is a part.
+#[derive(Clone, Copy)]
+pub struct Sight<'a> {
+    pub bounds: Bounds,
+    pub node: LeafNode<'a>,
+    pub ghost seeing: { Seeing bounds node.n },
 }
 
 // ---- small tests
@@ -103,24 +118,26 @@ pub fn is_blank(entry: &Entry) -> bool
 
 // ---- one entry
 
-// Whether a key may stand behind the records seen: above the last one, or, the first, at or above the separator.
-pub fn is_behind(pass: Pass, key: &[u8; 32]) -> bool
-    ensures { result ≡ is_behind pass.count pass.last key.now }
-{
-    if pass.count == 0 {
-        return !less(key, &pass.last);
+impl Tally {
+    // Whether a key may stand behind the records seen: above the last one, or, the first, at or above the separator.
+    pub fn is_behind(&self, key: &[u8; 32]) -> bool
+        ensures { result ≡ is_behind self.now.count self.now.last key.now }
+    {
+        if self.count == 0 {
+            return !less(key, &self.last);
+        }
+        less(&self.last, key)
     }
-    less(&pass.last, key)
 }
 
 // Whether an insert is right where it stands.
-fn insert_right(bounds: Bounds, pass: Pass, entry: &Entry) -> bool
-    ensures { result ≡ insert_right bounds pass entry.now }
+fn insert_right(bounds: Bounds, tally: &Tally, entry: &Entry) -> bool
+    ensures { result ≡ insert_right bounds tally.now entry.now }
 {
     let fields = (entry.from <= entry.to) & ((entry.sum == 0) & (entry.flag <= 1));
     let len = entry.to.saturating_sub(entry.from);
-    let place = (entry.from == pass.end) & ((entry.to <= bounds.filled) & (len <= bounds.most));
-    fields & (place & is_behind(pass, &entry.key))
+    let place = (entry.from == tally.end) & ((entry.to <= bounds.filled) & (len <= bounds.most));
+    fields & (place & tally.is_behind(&entry.key))
 }
 
 // Whether an entry is a chunk in the passed part, with no key and no flag.
@@ -132,115 +149,97 @@ fn chunk_lies(low: usize, entry: &Entry) -> bool
             & ((entry.to <= low) & (is_zero_key(&entry.key) & (entry.flag == 0))))
 }
 
-// Whether a chunk is right where it stands.
-fn chunk_right(bounds: Bounds, pass: Pass, entry: &Entry, node: LeafNode) -> bool
-    requires { Seeing bounds node.page.now node.n }
-    ensures { result ≡ chunk_right bounds node.entry.page.now pass entry.now }
-{
-    if !chunk_lies(bounds.low, entry) {
-        return false;
+impl<'a> Sight<'a> {
+    // Whether a chunk is right where it stands.
+    fn chunk_right(self, tally: &Tally, entry: &Entry) -> bool
+        ensures { result ≡ chunk_right self.entry.bounds self.entry.node.page.now tally.now entry.now }
+    {
+        if !chunk_lies(self.bounds.low, entry) {
+            return false;
+        }
+        let sum = self.node.size_between(entry.from, entry.to);
+        let behind = tally.is_behind(self.node.key(entry.from));
+        (entry.sum == sum) & behind
     }
-    let sum = node.size_between(entry.from, entry.to);
-    let behind = is_behind(pass, node.key(entry.from));
-    (entry.sum == sum) & behind
-}
 
-fn with_insert(bounds: Bounds, pass: Pass, entry: &Entry) -> Pass
-    requires { (Small bounds pass) × (pass.seen < bounds.used) × (bounds.used ≤ 4096) × (entry.now.to ≤ 65536) }
-    ensures { result ≡ with_insert pass entry.now }
-{
-    Pass {
-        seen: pass.seen + 1,
-        inserts: pass.inserts + 1,
-        end: entry.to,
-        count: pass.count + 1,
-        bytes: pass.bytes + entry.to.saturating_sub(entry.from),
-        last: entry.key,
+    // The pass after one more entry that must be an insert: none where the entry is wrong.
+    fn pass_insert(self, pass: Pass, entry: &Entry) -> Option<Pass>
+        requires { pass.tally.seen < self.bounds.used }
+        ensures { option_map (λ z. z.tally) result ≡ insert_passed self.entry.bounds pass.tally entry.now }
+    {
+        let tally = pass.tally;
+        if !insert_right(self.bounds, &tally, entry) {
+            return None;
+        }
+        let tally = Tally {
+            seen: tally.seen + 1,
+            inserts: tally.inserts + 1,
+            end: entry.to,
+            count: tally.count + 1,
+            bytes: tally.bytes + (entry.to - entry.from),
+            last: entry.key,
+        };
+        Some(Pass { tally })
     }
-}
 
-fn with_chunk(bounds: Bounds, pass: Pass, entry: &Entry, node: LeafNode) -> Pass
-    requires { (Seeing bounds node.page.now node.n) × (Small bounds pass) × (pass.seen < bounds.used) × (entry.now.from < entry.now.to) × (entry.now.to ≤ node.n) × (entry.now.sum ≤ 65536) }
-    ensures { result ≡ with_chunk node.entry.page.now pass entry.now }
-{
-    Pass {
-        seen: pass.seen + 1,
-        count: pass.count + (entry.to - entry.from),
-        bytes: pass.bytes + entry.sum,
-        last: *node.key(entry.to - 1),
-        ..pass
+    // The same of one that must be a chunk.
+    fn pass_chunk(self, pass: Pass, entry: &Entry) -> Option<Pass>
+        requires { pass.tally.seen < self.bounds.used }
+        ensures { option_map (λ z. z.tally) result ≡ chunk_passed self.entry.bounds self.entry.node.page.now pass.tally entry.now }
+    {
+        let tally = pass.tally;
+        if !self.chunk_right(&tally, entry) {
+            return None;
+        }
+        let tally = Tally {
+            seen: tally.seen + 1,
+            count: tally.count + (entry.to - entry.from),
+            bytes: tally.bytes + entry.sum,
+            last: *self.node.key(entry.to - 1),
+            ..tally
+        };
+        Some(Pass { tally })
     }
-}
 
-// The pass after one more entry that must be an insert, a chunk, or unused: none where the entry is wrong.
-fn pass_insert(bounds: Bounds, pass: Pass, entry: &Entry) -> Option<Pass>
-    requires { (Small bounds pass) × (pass.seen < bounds.used) × (bounds.used ≤ 4096) × (bounds.filled ≤ 65536) }
-    ensures { (result ≡ insert_passed bounds pass entry.now) × IfSome result (Small bounds) }
-{
-    if insert_right(bounds, pass, entry) {
-        return Some(with_insert(bounds, pass, entry));
+    // The pass after one more entry: an operation among the used ones, unused behind them. None where the entry is wrong.
+    pub fn pass_entry(self, pass: Pass, entry: &Entry) -> Option<Pass>
+        ensures { option_map (λ z. z.tally) result ≡ passed self.entry.bounds self.entry.node.page.now pass.tally entry.now }
+    {
+        if self.bounds.used <= pass.tally.seen {
+            return is_blank(entry).then_some(pass);
+        }
+        if entry.is_insert() {
+            return self.pass_insert(pass, entry);
+        }
+        self.pass_chunk(pass, entry)
     }
-    None
-}
 
-fn pass_chunk(bounds: Bounds, pass: Pass, entry: &Entry, node: LeafNode) -> Option<Pass>
-    requires { (Seeing bounds node.page.now node.n) × (Small bounds pass) × (pass.seen < bounds.used) }
-    ensures { (result ≡ chunk_passed bounds node.entry.page.now pass entry.now) × IfSome result (Small bounds) }
-{
-    if chunk_right(bounds, pass, entry, node) {
-        return Some(with_chunk(bounds, pass, entry, node));
+    // ---- the list
+
+    // The pass over entries, one by one.
+    fn pass_each(self, start: Pass, list: &[Entry]) -> Option<Pass>
+        ensures { option_map (λ z. z.tally) result ≡ passed_all self.entry.bounds self.entry.node.page.now start.tally list.now }
+    {
+        let mut pass = start;
+        for entry in list {
+            pass = self.pass_entry(pass, entry)?;
+        }
+        Some(pass)
     }
-    None
-}
 
-fn pass_blank(bounds: Bounds, pass: Pass, entry: &Entry) -> Option<Pass>
-    requires { Small bounds pass }
-    ensures { (result ≡ blank_passed pass entry.now) × IfSome result (Small bounds) }
-{
-    is_blank(entry).then_some(pass)
-}
-
-// The pass after one more entry: an operation among the used ones, unused behind them.
-pub fn pass_entry(bounds: Bounds, pass: Pass, entry: &Entry, node: LeafNode) -> Option<Pass>
-    requires { (Seeing bounds node.page.now node.n) × (Small bounds pass) }
-    ensures { (result ≡ passed bounds node.entry.page.now pass entry.now) × IfSome result (Small bounds) }
-{
-    if bounds.used <= pass.seen {
-        return pass_blank(bounds, pass, entry);
+    // The pass over all entries, by the one over the used ones: any other that isn't unused is wrong. So the long rest of a list costs one small
+    // test an entry.
+    pub fn pass_list(self, start: Pass, list: &[Entry]) -> Option<Pass>
+        ensures { option_map (λ z. z.tally) result ≡ passed_all self.entry.bounds self.entry.node.page.now start.tally list.now }
+    {
+        let used = self.bounds.used.min(list.len());
+        let pass = self.pass_each(start, &list[..used])?;
+        all_blank(&list[used..]).then_some(pass)
     }
-    if entry.is_insert() {
-        return pass_insert(bounds, pass, entry);
-    }
-    pass_chunk(bounds, pass, entry, node)
-}
-
-// ---- the list
-
-// The pass over entries, one by one.
-fn pass_each(bounds: Bounds, start: Pass, list: &[Entry], node: LeafNode) -> Option<Pass>
-    requires { (Seeing bounds node.page.now node.n) × (Small bounds start) }
-    ensures { (result ≡ passed_all bounds node.entry.page.now start list.now) × IfSome result (Small bounds) }
-{
-    let mut pass = start;
-    for entry in list {
-        pass = pass_entry(bounds, pass, entry, node)?;
-    }
-    Some(pass)
 }
 
 fn all_blank(list: &[Entry]) -> bool
     ensures { result ≡ list_all is_blank list.now }
 {
     list.iter().all(|entry| is_blank(entry))
-}
-
-// The pass over all entries, by the one over the used ones: any other that isn't unused is wrong. So the long rest of a list costs one small
-// test an entry.
-pub fn pass_list(bounds: Bounds, start: Pass, list: &[Entry], node: LeafNode) -> Option<Pass>
-    requires { (Seeing bounds node.page.now node.n) × (Small bounds start) }
-    ensures { (result ≡ passed_all bounds node.entry.page.now start list.now) × IfSome result (Small bounds) }
-{
-    let used = bounds.used.min(list.len());
-    let pass = pass_each(bounds, start, &list[..used], node)?;
-    all_blank(&list[used..]).then_some(pass)
 }

@@ -67,7 +67,8 @@ pub fn values_size(page: &[u8], from: usize, to: usize) -> Result<usize, Refusal
 
 // ---- reading by key
 
-// The value of a key, or the position at which it would stand, 0 to n.
+// The value of a key, or the position at which it would stand, 0 to n. The search is the free one: the page's method asks for a record,
+// and a good page may have none.
 pub fn get(page: &[u8], key: &[u8; 32]) -> Result<Result<Cell, usize>, Refusal>
     ensures value { numbered result ≡ get_reply 4096 page.now key.now }
     ensures result_value { number_of result ≡ page_verdict 4096 page.now }

@@ -199,10 +199,6 @@ pub data TwinReply : Type 0 where
   TwinRefused : ℕ → TwinReply
   Found : Place → TwinReply
 
-abbrev pub twin_number : TwinReply → ℕ
-twin_number (TwinRefused n) = n
-twin_number (Found x) = accepted
-
 -- the place with an index; No. 10: "index not below .. the pending count"
 abbrev pub nth_place : ℕ → List Place → TwinReply
 nth_place i [] = TwinRefused no_such_index

@@ -10,11 +10,21 @@ ghost use Rattle.leaf_work.specs.Outcome.{in_scope_of};
 
 use bit_ops::less;
 
-// The work record. Turn and flags are numbers, since any bytes may be lent. A key whose flag isn't set is zeros.
+// The turns of a work. They are numbers and no enum, since C lends the record, and any byte may stand there. 0 is none of them, so that
+// zeroed memory is not taken for an open work.
+pub const OPEN: u8 = 1;
+
+// It waits for a merge.
+pub const WAITING: u8 = 2;
+
+pub const DONE: u8 = 3;
+
+// The work record. Turn and flags are numbers, since any bytes may be lent. A key whose flag isn't set is zeros. Before the first opening
+// the record holds zeros, its default.
 #[repr(C)]
-#[derive(Clone, Copy)]
+#[derive(Clone, Copy, Default)]
 pub struct Work {
-    // 1 open, 2 waiting for a merge, 3 done; 0 is none of them, so that zeroed memory is not taken for an open work
+    // `OPEN`, `WAITING` or `DONE`
     pub turn: u8,
     // whether there is a base
     pub based: u8,
@@ -75,19 +85,26 @@ impl Work {
     pub fn is_open(&self) -> bool
         ensures { result ≡ is_open self.now }
     {
-        self.turn == 1
+        self.turn == OPEN
     }
 
     pub fn is_waiting(&self) -> bool
         ensures { result ≡ is_waiting self.now }
     {
-        self.turn == 2
+        self.turn == WAITING
     }
 
     pub fn is_done(&self) -> bool
         ensures { result ≡ is_done self.now }
     {
-        self.turn == 3
+        self.turn == DONE
+    }
+
+    // Whether an ingest reports every dropped flagged record.
+    pub fn reports_every(&self) -> bool
+        ensures { result ≡ is_set self.now.mode }
+    {
+        self.mode != 0
     }
 
     // The cutoff, where there is one.
@@ -162,5 +179,11 @@ impl Entry {
         ensures { result ≡ eqb self.now.kind 1 }
     {
         self.kind == 1
+    }
+
+    pub fn is_flagged(&self) -> bool
+        ensures { result ≡ is_set self.now.flag }
+    {
+        self.flag != 0
     }
 }

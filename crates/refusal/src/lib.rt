@@ -5,7 +5,8 @@
 ghost use Rattle.std.specs.Prelude.{◌≡◌};
 ghost use Rattle.refusal.specs.Numbers.{number, number_of};
 
-// Lowest number first: of several that apply, a call answers the lowest.
+// Lowest number first: of several that apply, a call answers the lowest. The papers name each case, so it is no `Option`; a call answers a
+// `Result`, whose error it is.
 #[derive(Clone, Copy, Debug, PartialEq, Eq, PartialOrd, Ord)]
 pub enum Refusal {
     PageLength = 1, // "cracked mould": the page isn't as long as a page

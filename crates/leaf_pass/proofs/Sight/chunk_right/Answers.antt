@@ -1,8 +1,8 @@
--- `leaf_pass::chunk_right` meets its contract.
+-- `leaf_pass::Sight::chunk_right` meets its contract.
 -- Assumes nothing.
 use Rattle.std.proofs.Common.{rules}
 use Rattle.leaf_pass.proofs.Entries.{not_a_chunk, chunk_order, chunk_end, chunk_first, chunk_by}
-use Rattle.leaf_pass.proofs.chunk_right.Goals as goal
+use Rattle.leaf_pass.proofs.Sight.chunk_right.Goals as goal
 
 pub returns-then-not-chunk_lies : goal.returns-then-not-chunk_lies
 returns-then-not-chunk_lies c = search (not_a_chunk, rules)
