@@ -18,10 +18,11 @@ use leaf_base::base_verdict;
 use leaf_check::closed_verdict;
 use leaf_node::{PAGE, Size, count_of, size_between};
 use leaf_open::{Base, key_or_zeros};
-use leaf_work::{Entry, Room, Work};
+use leaf_work::{Entry, OPEN, Room, Work};
 use refusal::Refusal;
 
-// What refuses a good page as the next base of a sound work that isn't open, where list and store have this room.
+// What refuses a good page as the next base of a sound work that isn't open, where list and store have this room. It takes a page and no
+// `LeafNode`, since it asks no more of it than that its records are laid.
 pub fn follows_verdict(
     work: &Work,
     page: &[u8],
@@ -31,10 +32,10 @@ pub fn follows_verdict(
     requires { (Laid page.now (count page.now)) × (count page.now ≤ room.entries) × (length page.now ≤ room.bytes) }
     ensures { number_of result ≡ follows_verdict work.now page.now separator.now room.entries room.bytes }
 {
-    if work.cut == 0 {
+    let Some(cutoff) = work.cutoff() else {
         return Err(Refusal::OutOfTurn);
-    }
-    if less(separator, &work.cutoff) {
+    };
+    if less(separator, cutoff) {
         return Err(Refusal::KeyTooLow);
     }
     let n = count_of(page);
@@ -67,7 +68,7 @@ pub fn next_base_work(work: &Work, separator: &[u8; 32], cutoff: Option<&[u8; 32
     ensures { result ≡ next_base_work work.now separator.now (is_some cutoff.entry) (key_or_zeros cutoff.entry) }
 {
     Work {
-        turn: 1,
+        turn: OPEN,
         based: 1,
         low: 0,
         latest: *separator,
@@ -108,7 +109,7 @@ pub fn remove_work(work: &Work) -> Work
     ensures { result ≡ remove_work work.now }
 {
     Work {
-        turn: 1,
+        turn: OPEN,
         based: 0,
         low: 0,
         cut: 0,

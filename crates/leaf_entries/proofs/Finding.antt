@@ -1,11 +1,10 @@
 -- What is found out of each element of a list, one after the other. Assumes nothing.
 use mathlib.Core.Path.{sym, subst}
 use mathlib.Core.List.{List, [], ◌∷◌}
-use Prim.Native.Nat.{ℕ, zero, suc, ◌+◌, ◌≤◌, ◌<◌}
+use Prim.Native.Nat.{ℕ, zero, suc, ◌+◌, ◌<◌}
 use native.Mathlib.Nat.{not-suc-le-zero, le_of_suc-le-suc}
 use native.Mathlib.Numerals.{add-one}
 use lib.ListN.{length, get_or, take}
-use lib.Seq.{take_all}
 use Rattle.leaf_node.specs.Fits.{All, nil, cons}
 
 module _ {A : Type 0} {P : A → Type 0} where
@@ -16,6 +15,3 @@ module _ {A : Type 0} {P : A → Type 0} where
 
   pub finding_one_more : (l : List A) (i : ℕ) (d : A) → i < length l → All P (take i l) → P (get_or l i d) → All P (take (i + 1) l)
   finding_one_more l i d h a p = subst (λ (k : ℕ). All P (take k l)) (sym (add-one i)) (finding_the_next l i d h a p)
-
-  pub finding_all : (l : List A) (i : ℕ) → length l ≤ i → All P (take i l) → All P l
-  finding_all l i h a = subst (All P) (take_all i l h) a

@@ -56,7 +56,7 @@ pub fn chunk_entry(first: usize, end: usize, sum: usize) -> Entry
 fn behind(entry: Entry, skip: usize) -> Entry
     ensures { result ≡ behind_of skip entry }
 {
-    if entry.kind == 1 {
+    if entry.is_insert() {
         return entry;
     }
     if entry.to < entry.from {

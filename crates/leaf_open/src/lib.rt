@@ -14,7 +14,7 @@ use leaf_base::base_verdict;
 use leaf_check::room_right;
 use leaf_entries::blank_entry;
 use leaf_node::{PAGE, Size};
-use leaf_work::{Entry, Room, Work};
+use leaf_work::{Entry, OPEN, Room, Work};
 use refusal::Refusal;
 
 // A base to open with: its page and its separator.
@@ -77,13 +77,13 @@ fn open_verdict(
 }
 
 // An open work with nothing listed, in the mode that reports every dropped flagged record or in the Rust's. Without a base its separator
-// is zeros.
+// is zeros. Each field is named here: of the default's the search finds no proof.
 pub fn fresh_work(every: bool, separator: Option<&[u8; 32]>, cutoff: Option<&[u8; 32]>) -> Work
     ensures { result ≡ fresh_work every (is_some separator.entry) (key_or_zeros separator.entry) (is_some cutoff.entry) (key_or_zeros cutoff.entry) }
 {
     let lowest = key_or_zeros(separator);
     Work {
-        turn: 1,
+        turn: OPEN,
         based: u8::from(separator.is_some()),
         mode: u8::from(every),
         low: 0,

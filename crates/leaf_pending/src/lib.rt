@@ -14,7 +14,7 @@ use leaf_node::{LeafNode, PAGE};
 use leaf_work::{Entry, Work};
 use refusal::Refusal;
 
-// Which of the two that are lent has a pending record's value.
+// Which of the two that are lent has a pending record's value: two cases that the papers name, and so no `Option`.
 #[derive(Clone, Copy, Debug, PartialEq, Eq)]
 pub enum Holder {
     Store = 1,
@@ -117,7 +117,7 @@ fn entry_record(entry: &Entry, node: LeafNode, i: usize) -> Place
     }
     Place {
         holder: Holder::Store,
-        flag: entry.flag != 0,
+        flag: entry.is_flagged(),
         offset: entry.from,
         len: entry.to - entry.from,
         key: entry.key,

@@ -127,7 +127,7 @@ pub fn take_in(
     let used = put_entries(work, list, kept, key, change);
     let value = change.value();
     copy_in(value, store, work.filled);
-    let dropped = report_of(work.mode != 0, work.low, node.page, kept);
+    let dropped = report_of(work.reports_every(), work.low, node.page, kept);
     *work = ingest_work(work, key, kept, used, change.added(), value.len());
     Ok(dropped)
 }

@@ -4,8 +4,8 @@ use Rattle.std.proofs.Common.{rules}
 use Rattle.leaf_entries.proofs.Splitting.{an_insert_stays_whole, an_empty_chunk_stays_whole, a_shorter_chunk_stays_whole, a_chunk_is_split}
 use Rattle.leaf_entries.proofs.behind.Goals as goal
 
-pub returns-then-entry-eq1 : goal.returns-then-entry-eq1
-returns-then-entry-eq1 c = search (an_insert_stays_whole, rules)
+pub returns-then-is_insert : goal.returns-then-is_insert
+returns-then-is_insert c = search (an_insert_stays_whole, rules)
 
 pub returns-then-entry : goal.returns-then-entry
 returns-then-entry c = search (an_empty_chunk_stays_whole, rules)

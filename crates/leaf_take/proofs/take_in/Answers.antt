@@ -29,5 +29,5 @@ returns c =
     let room = c.of.ensures in
     let k = c.keep_up_to-kept.ensures in
     let number = the_room_decides _ _ _ _ _ _ _ c.in_ok-key_verdict.ensures _ k _ c.args.node.counted.counted _ _ room.0 room.1 _ c.in_ok-room_verdict.ensures in
-    an_accepted_ingest_leaves_its_outcome _ _ _ _ _ _ _ number _ k _ c.report_of-dropped.ensures _ _ _ _ _ _
+    an_accepted_ingest_leaves_its_outcome _ _ _ _ _ _ _ number _ k _ (rw (← c.reports_every.ensures) c.report_of-dropped.ensures) _ _ _ _ _ _
     c.put_entries-used.ensures c.value-value.ensures c.copy_in.ensures c.added.ensures.0 c.ingest_work.ensures
