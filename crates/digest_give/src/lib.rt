@@ -6,7 +6,7 @@ ghost use Rattle.std.specs.Prelude.{length};
 ghost use Rattle.digest_give.specs.Leaf.{TakenThere, TakenGiven};
 
 use digest_leaf::Pending;
-use leaf_cut::{Gauge, Taken};
+use leaf_cut::Taken;
 use leaf_give::{Progress, give_ticket};
 use leaf_node::Size;
 use leaf_write::next_separator;
@@ -25,11 +25,11 @@ pub fn give_leaf(
 {
     let from = p.leaves * size.bytes;
     let to = from + size.bytes;
-    pending.build_leaf(p.at, Gauge::from(taken.end), &mut area[from..to]);
+    pending.build_leaf(p.at, taken.end.leaf, &mut area[from..to]);
     let cutoff = pending.work.cutoff();
     let Some(key) = pending.next_key(taken.at) else {
         return give_ticket(p, taken, None, cutoff, tickets);
     };
-    let next = next_separator(&area[from..to], taken.end.count - 1, key);
+    let next = next_separator(&area[from..to], taken.end.leaf.count - 1, key);
     give_ticket(p, taken, Some(&next), cutoff, tickets)
 }

@@ -15,10 +15,11 @@ use Rattle.leaf_cut.specs.declared.Span.{Span}
 use Rattle.leaf_cut.specs.declared.Cursor.{Cursor}
 use Rattle.leaf_cut.specs.Records.{records_from, entry_records}
 use Rattle.leaf_cut.proofs.Parts.{a_chunk_holds_its_records}
-use Rattle.leaf_write.specs.Filling.{part_from}
+use Rattle.leaf_write.proofs.Parts.{part_from}
 use Rattle.leaf_raise.specs.declared.Top.{Top}
 use Rattle.leaf_raise.specs.Raising.{lower_by, Room, Raised, RangeThere, EntryBelow}
-use Rattle.leaf_merge.specs.Lifting.{full_top, skip_at, PartBelow, Raises}
+use Rattle.leaf_merge.specs.Lifting.{full_top, skip_at, Raises}
+use Rattle.leaf_merge.proofs.Walk.{PartBelow}
 use Rattle.leaf_merge.proofs.Walk.{Lifted, nothing_is_lifted, the_part_is_below, the_part_has_room, a_part_is_lifted, all_is_lifted}
 use Rattle.leaf_entries.specs.Lists.{behind_of}
 use Rattle.digest_keep.specs.Lifting.{Raisable, place_before, part_of, RestThere}

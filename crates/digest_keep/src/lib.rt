@@ -76,7 +76,7 @@ fn lift_insert(entry: Entry, store: &mut [u8], top: Top) -> Lifted
 {
     let next = lower(top, entry.to - entry.from);
     move_up(store, entry.from, entry.to, top.at);
-    listed_below(&entry.key, entry.flag != 0, next, top.to)
+    listed_below(&entry.key, entry.is_flagged(), next, top.to)
 }
 
 // Raises an entry's last record but i.

@@ -15,7 +15,8 @@ use Rattle.leaf_cut.specs.declared.Cursor.{Cursor}
 use Rattle.leaf_cut.specs.Records.{records_from, entry_records}
 use Rattle.leaf_cut.proofs.Parts.{the_records_from_the_rest_on}
 use Rattle.leaf_write.specs.declared.Place.{Place}
-use Rattle.leaf_write.specs.Filling.{part_from, PushedAt, EntryThere, RangeIn, RoomAt}
+use Rattle.leaf_write.proofs.Parts.{part_from}
+use Rattle.leaf_write.specs.Filling.{PushedAt, EntryThere, RangeIn, RoomAt}
 use Rattle.leaf_write.proofs.Leaves.{Filled, a_filled_page_has_all, the_part_can_be_read, the_part_has_room, a_part_is_pushed}
 use Rattle.digest_leaf.specs.Pushing.{RecordsAsked}
 

@@ -38,6 +38,8 @@ pub struct Pending<'a> {
     pub ghost spread: { Spread list.now node.page.now (span_of work.now) },
 }
 
+// Each clause names the parts: a definition that names `Pending` can't be cited in this file, since the ghost field imports all that the file
+// cites.
 impl<'a> Pending<'a> {
     // One leaf off the pending records from a cursor on: entry by entry, then the base's rest.
     pub fn consume_and_update_until(self, start: Cursor, aim: Aim) -> Taken
@@ -46,12 +48,12 @@ impl<'a> Pending<'a> {
     {
         let mut leaf = Gauge { count: 0, bytes: 0 };
         let mut at = start;
-        for i in start.entry..self.work.used {
-            let taken = consume_entry(&self.list[i], self.node, at, leaf, aim);
+        for entry in &self.list[start.entry..self.work.used] {
+            let taken = consume_entry(entry, self.node, at, leaf, aim);
             if taken.end.cut {
                 return taken;
             }
-            leaf = Gauge::from(taken.end);
+            leaf = taken.end.leaf;
             at = taken.at;
         }
         consume_rest(self.node, span_of(self.work), at.skip, leaf, aim)
@@ -64,11 +66,11 @@ impl<'a> Pending<'a> {
     {
         let mut skip = start.skip;
         let mut place = first;
-        for i in start.entry..self.work.used {
+        for entry in &self.list[start.entry..self.work.used] {
             if place.left == 0 {
                 return;
             }
-            place = push_entry(&self.list[i], self.store, self.node.page, skip, d, place);
+            place = push_entry(entry, self.store, self.node.page, skip, d, place);
             skip = 0;
         }
         if place.left != 0 {

@@ -1,2 +1,2 @@
--- What giving the leaves of a digest over the list requires, and its steps by value.
+-- What giving the leaves of a digest requires, and what it leaves.
 pub mod Leaves

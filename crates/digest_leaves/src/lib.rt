@@ -3,8 +3,7 @@
 #![tactic(auto)]
 
 ghost use Rattle.std.specs.Prelude.{◌≡◌, ◌≤◌};
-ghost use Rattle.leaf_give.specs.Giving.{Gives, GivenOut};
-ghost use Rattle.digest_leaves.specs.Leaves.{is_last, CutAsked, AllCut};
+ghost use Rattle.digest_leaves.specs.Leaves.{is_last, LeavesAsked, LeavesGiven, CutAsked, AllCut};
 
 use digest_give::give_leaf;
 use digest_leaf::Pending;
@@ -19,7 +18,7 @@ fn is_last(work: &Work, p: Progress, size: Size) -> bool
     ensures { result ≡ is_last size.bytes work.now p }
 {
     let left = p.left;
-    (left.count != 0) & !waits(work.cut != 0, left, size)
+    (left.count != 0) & !waits(work.cutoff().is_some(), left, size)
 }
 
 // ---- leaf after leaf
@@ -33,8 +32,8 @@ fn try_build_leaves(
     tickets: &mut [u8],
     size: Size,
 ) -> Progress
-    requires { let q = pending in CutAsked size.bytes q.work.now q.list.now q.store.now q.node.page.now area.old tickets.old start target }
-    ensures { let q = pending.entry in AllCut size.bytes q.work.now q.list.now q.store.now q.node.page.now area.old tickets.old result area.new tickets.new }
+    requires { CutAsked size.bytes pending area.old tickets.old start target }
+    ensures { AllCut size.bytes pending.entry area.old tickets.old result area.new tickets.new }
 {
     let limit = size.body_limit();
     let aim = Aim { target, limit };
@@ -50,8 +49,8 @@ fn try_build_leaves(
 
 // The leaves that are cut off what is pending, steps 1 to 3.
 fn cut_leaves(pending: Pending, area: &mut [u8], tickets: &mut [u8], size: Size) -> Progress
-    requires { let q = pending in Gives size.bytes q.work.now q.list.now q.store.now q.node.page.now area.old tickets.old }
-    ensures { let q = pending.entry in AllCut size.bytes q.work.now q.list.now q.store.now q.node.page.now area.old tickets.old result area.new tickets.new }
+    requires { LeavesAsked size.bytes pending area.old tickets.old }
+    ensures { AllCut size.bytes pending.entry area.old tickets.old result area.new tickets.new }
 {
     let begun = begin_leaves(pending.work, pending.node, size);
     match begun.target {
@@ -62,8 +61,8 @@ fn cut_leaves(pending: Pending, area: &mut [u8], tickets: &mut [u8], size: Size)
 
 // All leaves of a digest, steps 1 to 5.
 pub fn give_leaves(pending: Pending, area: &mut [u8], tickets: &mut [u8], size: Size) -> Progress
-    requires { let q = pending in Gives size.bytes q.work.now q.list.now q.store.now q.node.page.now area.old tickets.old }
-    ensures { let q = pending.entry in GivenOut size.bytes q.work.now q.list.now q.store.now q.node.page.now area.old tickets.old result area.new tickets.new }
+    requires { LeavesAsked size.bytes pending area.old tickets.old }
+    ensures { LeavesGiven size.bytes pending.entry area.old tickets.old result area.new tickets.new }
 {
     let p = cut_leaves(pending, area, tickets, size);
     if !is_last(pending.work, p, size) {
@@ -72,8 +71,7 @@ pub fn give_leaves(pending: Pending, area: &mut [u8], tickets: &mut [u8], size: 
     let last = Taken {
         end: Ended {
             cut: false,
-            count: p.left.count,
-            bytes: p.left.bytes,
+            leaf: p.left,
         },
         at: Cursor {
             entry: pending.work.used,

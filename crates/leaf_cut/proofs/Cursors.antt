@@ -16,29 +16,29 @@ use Rattle.leaf_node.proofs.Lengths.{length_run}
 use Rattle.leaf_cut.specs.declared.Cursor.{Cursor}
 use Rattle.leaf_cut.specs.declared.Ended.{Ended}
 use Rattle.leaf_cut.specs.Sizes.{cut_sizes, entry_sizes, listed_sizes, sizes_behind, count_behind, passed_by}
-use Rattle.leaf_cut.proofs.Pieces.{records_are_few}
+use Rattle.leaf_cut.proofs.Ranges.{records_are_few}
 use Rattle.leaf_cut.proofs.Ending.{ends_before, ends_behind, ends_later}
 
--- ---- where a leaf ends among the records of a piece, whatever comes behind it
+-- ---- where a leaf ends among some records, whatever comes behind it
 
 module _ (limit target : ℕ) where
   pub record Within (xs ys : List ℕ) (n b : ℕ) : Type 0 where
-    pub from : n ≤ (cut_sizes limit target n b xs).count
-    pub upto : (cut_sizes limit target n b xs).count ≤ n + length xs
+    pub from : n ≤ (cut_sizes limit target n b xs).leaf.count
+    pub upto : (cut_sizes limit target n b xs).leaf.count ≤ n + length xs
     pub cut : (cut_sizes limit target n b xs).cut ≡ true → cut_sizes limit target n b (xs ++ ys) ≡ cut_sizes limit target n b xs
-    pub whole : (cut_sizes limit target n b xs).cut ≡ false → (cut_sizes limit target n b xs).count ≡ n + length xs
+    pub whole : (cut_sizes limit target n b xs).cut ≡ false → (cut_sizes limit target n b xs).leaf.count ≡ n + length xs
     pub on : (cut_sizes limit target n b xs).cut ≡ false
-        → cut_sizes limit target n b (xs ++ ys) ≡ cut_sizes limit target (cut_sizes limit target n b xs).count (cut_sizes limit target n b xs).bytes ys
-    pub below : (cut_sizes limit target n b xs).cut ≡ false → 34 * n + b < target → 34 * (cut_sizes limit target n b xs).count + (cut_sizes limit target n b xs).bytes < target
+        → cut_sizes limit target n b (xs ++ ys) ≡ cut_sizes limit target (cut_sizes limit target n b xs).leaf.count (cut_sizes limit target n b xs).leaf.bytes ys
+    pub below : (cut_sizes limit target n b xs).cut ≡ false → 34 * n + b < target → 34 * (cut_sizes limit target n b xs).leaf.count + (cut_sizes limit target n b xs).leaf.bytes < target
 
   true_is_not_false : {A : Type 0} → true ≡ false → A
   true_is_not_false e = absurd (true≢false e)
 
   -- a record that ends the leaf
-  ends : (x : ℕ) (xs ys : List ℕ) (n b c d : ℕ) → ((zs : List ℕ) → cut_sizes limit target n b (x ∷ zs) ≡ record { cut = true; count = c; bytes = d }) → n ≤ c → c ≤ n + suc (length xs)
+  ends : (x : ℕ) (xs ys : List ℕ) (n b c d : ℕ) → ((zs : List ℕ) → cut_sizes limit target n b (x ∷ zs) ≡ record { cut = true; leaf = record { count = c; bytes = d } }) → n ≤ c → c ≤ n + suc (length xs)
       → Within (x ∷ xs) ys n b
   ends x xs ys n b c d q h k =
-      let m : (cut_sizes limit target n b (x ∷ xs)).count ≡ c = ap (λ (e : Ended). e.count) (q xs) in
+      let m : (cut_sizes limit target n b (x ∷ xs)).leaf.count ≡ c = ap (λ (e : Ended). e.leaf.count) (q xs) in
       let t : (cut_sizes limit target n b (x ∷ xs)).cut ≡ true = ap (λ (e : Ended). e.cut) (q xs) in
       record {
         from = omega arith;
@@ -52,20 +52,20 @@ module _ (limit target : ℕ) where
   goes_on : (x : ℕ) (xs ys : List ℕ) (n b : ℕ) → ((zs : List ℕ) → cut_sizes limit target n b (x ∷ zs) ≡ cut_sizes limit target (n + 1) (b + x) zs) → 34 * (n + 1) + (b + x) < target
       → Within xs ys (n + 1) (b + x) → Within (x ∷ xs) ys n b
   goes_on x xs ys n b q l w =
-      let m : (cut_sizes limit target n b (x ∷ xs)).count ≡ (cut_sizes limit target (n + 1) (b + x) xs).count = ap (λ (e : Ended). e.count) (q xs) in
-      let d : (cut_sizes limit target n b (x ∷ xs)).bytes ≡ (cut_sizes limit target (n + 1) (b + x) xs).bytes = ap (λ (e : Ended). e.bytes) (q xs) in
+      let m : (cut_sizes limit target n b (x ∷ xs)).leaf.count ≡ (cut_sizes limit target (n + 1) (b + x) xs).leaf.count = ap (λ (e : Ended). e.leaf.count) (q xs) in
+      let d : (cut_sizes limit target n b (x ∷ xs)).leaf.bytes ≡ (cut_sizes limit target (n + 1) (b + x) xs).leaf.bytes = ap (λ (e : Ended). e.leaf.bytes) (q xs) in
       let t : (cut_sizes limit target n b (x ∷ xs)).cut ≡ (cut_sizes limit target (n + 1) (b + x) xs).cut = ap (λ (e : Ended). e.cut) (q xs) in
       record {
         from = omega (arith, w.from);
         upto = omega (arith, w.upto);
         cut = λ f. q (xs ++ ys) ∙ w.cut (sym t ∙ f) ∙ sym (q xs);
         whole = λ f. omega (arith, w.whole (sym t ∙ f));
-        on = λ f. q (xs ++ ys) ∙ w.on (sym t ∙ f) ∙ sym (ap (λ (k : ℕ). cut_sizes limit target k (cut_sizes limit target n b (x ∷ xs)).bytes ys) m ∙ ap (λ (k : ℕ). cut_sizes limit target (cut_sizes limit target (n + 1) (b + x) xs).count k ys) d);
+        on = λ f. q (xs ++ ys) ∙ w.on (sym t ∙ f) ∙ sym (ap (λ (k : ℕ). cut_sizes limit target k (cut_sizes limit target n b (x ∷ xs)).leaf.bytes ys) m ∙ ap (λ (k : ℕ). cut_sizes limit target (cut_sizes limit target (n + 1) (b + x) xs).leaf.count k ys) d);
         below = λ f g. omega (arith, w.below (sym t ∙ f) l);
       }
 
-  pub a_leaf_among_the_records_of_a_piece : (xs ys : List ℕ) (n b : ℕ) → Within xs ys n b
-  a_leaf_among_the_records_of_a_piece [] ys n b = unfold cut_sizes in record {
+  pub a_leaf_among_some_records : (xs ys : List ℕ) (n b : ℕ) → Within xs ys n b
+  a_leaf_among_some_records [] ys n b = unfold cut_sizes in record {
     from = omega arith;
     upto = omega arith;
     cut = λ f. true_is_not_false (sym f);
@@ -73,8 +73,8 @@ module _ (limit target : ℕ) where
     on = λ f. refl;
     below = λ f g. g;
   }
-  a_leaf_among_the_records_of_a_piece (x ∷ xs) ys n b =
-      test (a_leaf_among_the_records_of_a_piece xs ys (n + 1) (b + x)) (ltb limit (34 * (n + 1) + (b + x))) (leb target (34 * (n + 1) + (b + x))) refl refl
+  a_leaf_among_some_records (x ∷ xs) ys n b =
+      test (a_leaf_among_some_records xs ys (n + 1) (b + x)) (ltb limit (34 * (n + 1) + (b + x))) (leb target (34 * (n + 1) + (b + x))) refl refl
     where
       test : Within xs ys (n + 1) (b + x) → (t u : Bool) → ltb limit (34 * (n + 1) + (b + x)) ≡ t → leb target (34 * (n + 1) + (b + x)) ≡ u → Within (x ∷ xs) ys n b
       test ih true u e f = ends x xs ys n b n b (λ zs. ends_before limit target n b x zs (ltb-true limit (34 * (n + 1) + (b + x)) e)) (omega arith) (omega arith)
@@ -84,11 +84,11 @@ module _ (limit target : ℕ) where
           let l = leb-false target (34 * (n + 1) + (b + x)) f in
           goes_on x xs ys n b (λ zs. ends_later limit target n b x zs (ltb-false limit (34 * (n + 1) + (b + x)) e) l) l ih
 
-  pub a_leaf_does_not_shrink : (xs : List ℕ) (n b : ℕ) (e : Ended) → e ≡ cut_sizes limit target n b xs → n ≤ e.count
-  a_leaf_does_not_shrink xs n b e q = let m = ap (λ (x : Ended). x.count) q in omega (arith, m, (a_leaf_among_the_records_of_a_piece xs [] n b).from)
+  pub a_leaf_does_not_shrink : (xs : List ℕ) (n b : ℕ) (e : Ended) → e ≡ cut_sizes limit target n b xs → n ≤ e.leaf.count
+  a_leaf_does_not_shrink xs n b e q = let m = ap (λ (x : Ended). x.leaf.count) q in omega (arith, m, (a_leaf_among_some_records xs [] n b).from)
 
-  pub a_leaf_takes_no_more_than_there_is : (xs : List ℕ) (n b : ℕ) (e : Ended) → e ≡ cut_sizes limit target n b xs → e.count ≤ n + length xs
-  a_leaf_takes_no_more_than_there_is xs n b e q = let m = ap (λ (x : Ended). x.count) q in omega (arith, m, (a_leaf_among_the_records_of_a_piece xs [] n b).upto)
+  pub a_leaf_takes_no_more_than_there_is : (xs : List ℕ) (n b : ℕ) (e : Ended) → e ≡ cut_sizes limit target n b xs → e.leaf.count ≤ n + length xs
+  a_leaf_takes_no_more_than_there_is xs n b e q = let m = ap (λ (x : Ended). x.leaf.count) q in omega (arith, m, (a_leaf_among_some_records xs [] n b).upto)
 
 -- ---- the records from a cursor on: those of its entry, and those behind it
 
@@ -147,7 +147,7 @@ module _ (page : List ℕ) (entry : Entry) (at : Cursor) (limit target n b : ℕ
     unfolding sizes_behind
     an_insert_is_consumed q = rw (eq-eqb entry.kind 1 e) q
 
-    pub an_insert_is_passed : to ≡ passed_by at 1 (end.count - n) → to ≡ passed_by at (count_behind entry at.skip) (end.count - n)
+    pub an_insert_is_passed : to ≡ passed_by at 1 (end.leaf.count - n) → to ≡ passed_by at (count_behind entry at.skip) (end.leaf.count - n)
     unfolding count_behind
     an_insert_is_passed q = rw (eq-eqb entry.kind 1 e) q
 
@@ -156,18 +156,18 @@ module _ (page : List ℕ) (entry : Entry) (at : Cursor) (limit target n b : ℕ
     unfolding sizes_behind
     a_chunk_is_consumed q = rw (ne_eqb entry.kind 1 e) q
 
-    pub a_chunk_is_passed : to ≡ passed_by at (entry.to - (entry.from + at.skip)) (end.count - n) → to ≡ passed_by at (count_behind entry at.skip) (end.count - n)
+    pub a_chunk_is_passed : to ≡ passed_by at (entry.to - (entry.from + at.skip)) (end.leaf.count - n) → to ≡ passed_by at (count_behind entry at.skip) (end.leaf.count - n)
     unfolding count_behind
     a_chunk_is_passed q = rw (ne_eqb entry.kind 1 e) q
 
 -- what a leaf takes of some records is no more than they are
 module _ (limit target n b : ℕ) (end : Ended) where
-  pub one_record_is_taken_at_most : (v : ℕ) → end ≡ cut_sizes limit target n b (v ∷ []) → end.count - n ≤ 65536
+  pub one_record_is_taken_at_most : (v : ℕ) → end ≡ cut_sizes limit target n b (v ∷ []) → end.leaf.count - n ≤ 65536
   one_record_is_taken_at_most v q = omega (arith, a_leaf_takes_no_more_than_there_is limit target (v ∷ []) n b end q)
 
   module _ (page : List ℕ) (records : ℕ) (c : Counted page records) (from to : ℕ) (h : to ≤ records) (q : end ≡ cut_sizes limit target n b (run (to - from) from (length_at page))) where
-    pub few_records_are_taken : end.count - n ≤ to - from
+    pub few_records_are_taken : end.leaf.count - n ≤ to - from
     few_records_are_taken = omega (arith, a_leaf_takes_no_more_than_there_is limit target (run (to - from) from (length_at page)) n b end q, length_run (to - from) from (length_at page))
 
-    pub a_chunk_has_few_records : end.count - n ≤ 65536
+    pub a_chunk_has_few_records : end.leaf.count - n ≤ 65536
     a_chunk_has_few_records = omega (arith, few_records_are_taken, records_are_few page records c)

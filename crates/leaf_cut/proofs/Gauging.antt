@@ -1,7 +1,7 @@
 -- The body that leaves aim at, by the pending one. Assumes nothing.
 use mathlib.Core.Path.{◌≡◌}
 use Rattle.std.specs.Prelude.{None, Some}
-use Prim.Native.Nat.{ℕ, ◌-◌, ◌/◌, ◌≤◌, ◌<◌}
+use Prim.Native.Nat.{ℕ, ◌/◌, ◌≤◌, ◌<◌}
 use borrow.Author.Tests.{lt-ltb, le-ltb}
 use Rattle.leaf_node.specs.Limits.{body_limit, bulk_above, bulk_target}
 use Rattle.leaf_model.specs.Cut.{target_of}

@@ -1,6 +1,6 @@
 -- Laws on plain values, for the functions' proofs.
 pub mod Gauging
-pub mod Pieces
+pub mod Ranges
 pub mod Ending
 pub mod Cursors
 pub mod Walking

@@ -19,7 +19,7 @@ use Rattle.leaf_cut.specs.declared.Cursor.{Cursor}
 use Rattle.leaf_cut.specs.Sizes.{entry_sizes, listed_sizes, index_of}
 use Rattle.leaf_cut.specs.Records.{spanned_records, records_from, entry_records}
 use Rattle.leaf_cut.specs.Steps.{Kept, Spread}
-use Rattle.leaf_cut.proofs.Pieces.{drop_run}
+use Rattle.leaf_cut.proofs.Ranges.{drop_run}
 use Rattle.leaf_cut.proofs.Records.{sizes_of_an_entry}
 
 -- ---- one entry

@@ -37,7 +37,7 @@ use Rattle.leaf_cut.proofs.Cursors.{a_leaf_does_not_shrink, a_leaf_takes_no_more
 
 -- the leaf that ends there, or none
 abbrev pub taken_by : Ended → List Record → Option Taken
-taken_by e rs = elim e.cut [ true ↦ some (record { leaf = take e.count rs; remaining = drop e.count rs }) | false ↦ none ]
+taken_by e rs = elim e.cut [ true ↦ some (record { leaf = take e.leaf.count rs; remaining = drop e.leaf.count rs }) | false ↦ none ]
 
 module _ (limit target : ℕ) where
   -- what `take_until` makes of the next record
@@ -64,11 +64,11 @@ module _ (limit target : ℕ) where
   length_with : (leaf : List Record) (r : Record) → length (leaf ++ (r ∷ [])) ≡ length leaf + 1
   length_with leaf r = length-append leaf (r ∷ [])
 
-  taken_before : (leaf : List Record) (r : Record) (rs : List Record) (e : Ended) → e ≡ record { cut = true; count = length leaf; bytes = total leaf }
+  taken_before : (leaf : List Record) (r : Record) (rs : List Record) (e : Ended) → e ≡ record { cut = true; leaf = record { count = length leaf; bytes = total leaf } }
       → taken_by e (leaf ++ (r ∷ rs)) ≡ some (record { leaf = leaf; remaining = r ∷ rs })
   taken_before leaf r rs e q = rw (q, take_at leaf (r ∷ rs) (length leaf) refl, drop_at leaf (r ∷ rs) (length leaf) refl)
 
-  taken_behind_lem : (leaf : List Record) (r : Record) (rs : List Record) (e : Ended) → e ≡ record { cut = true; count = length leaf + 1; bytes = total leaf + length r.value }
+  taken_behind_lem : (leaf : List Record) (r : Record) (rs : List Record) (e : Ended) → e ≡ record { cut = true; leaf = record { count = length leaf + 1; bytes = total leaf + length r.value } }
       → taken_by e (leaf ++ (r ∷ rs)) ≡ some (record { leaf = leaf ++ (r ∷ []); remaining = rs })
   taken_behind_lem leaf r rs e q =
       let a : leaf ++ (r ∷ rs) ≡ (leaf ++ (r ∷ [])) ++ rs = sym (append_assoc leaf (r ∷ []) rs) in
@@ -118,22 +118,22 @@ first_one r rs b = omega arith
 module _ (limit target : ℕ) where
   -- of the first m records, where the leaf ends behind them
   abbrev Bytes : List Record → ℕ → ℕ → Type 0
-  Bytes rs n b = (m : ℕ) → (cut_sizes limit target n b (sizes rs)).count ≡ n + m → (cut_sizes limit target n b (sizes rs)).bytes ≡ b + total (take m rs)
+  Bytes rs n b = (m : ℕ) → (cut_sizes limit target n b (sizes rs)).leaf.count ≡ n + m → (cut_sizes limit target n b (sizes rs)).leaf.bytes ≡ b + total (take m rs)
 
-  ends_at : (rs : List Record) (n b k d : ℕ) → cut_sizes limit target n b (sizes rs) ≡ record { cut = true; count = n + k; bytes = d } → d ≡ b + total (take k rs) → Bytes rs n b
+  ends_at : (rs : List Record) (n b k d : ℕ) → cut_sizes limit target n b (sizes rs) ≡ record { cut = true; leaf = record { count = n + k; bytes = d } } → d ≡ b + total (take k rs) → Bytes rs n b
   ends_at rs n b k d q t m h =
-      let c : (cut_sizes limit target n b (sizes rs)).count ≡ n + k = ap (λ (x : Ended). x.count) q in
-      let g : (cut_sizes limit target n b (sizes rs)).bytes ≡ d = ap (λ (x : Ended). x.bytes) q in
+      let c : (cut_sizes limit target n b (sizes rs)).leaf.count ≡ n + k = ap (λ (x : Ended). x.leaf.count) q in
+      let g : (cut_sizes limit target n b (sizes rs)).leaf.bytes ≡ d = ap (λ (x : Ended). x.leaf.bytes) q in
       let i : k ≡ m = omega (arith, c) in
       g ∙ t ∙ ap (λ (x : ℕ). b + total (take x rs)) i
 
   goes_on : (r : Record) (rs : List Record) (n b : ℕ) → cut_sizes limit target n b (sizes (r ∷ rs)) ≡ cut_sizes limit target (n + 1) (b + length r.value) (sizes rs)
-      → n + 1 ≤ (cut_sizes limit target (n + 1) (b + length r.value) (sizes rs)).count → Bytes rs (n + 1) (b + length r.value) → Bytes (r ∷ rs) n b
+      → n + 1 ≤ (cut_sizes limit target (n + 1) (b + length r.value) (sizes rs)).leaf.count → Bytes rs (n + 1) (b + length r.value) → Bytes (r ∷ rs) n b
   unfolding total
-  goes_on r rs n b q l ih zero h = let c = ap (λ (x : Ended). x.count) q in absurd (omega (arith, c))
+  goes_on r rs n b q l ih zero h = let c = ap (λ (x : Ended). x.leaf.count) q in absurd (omega (arith, c))
   goes_on r rs n b q l ih (suc m) h =
-      let c = ap (λ (x : Ended). x.count) q in
-      let g = ap (λ (x : Ended). x.bytes) q in
+      let c = ap (λ (x : Ended). x.leaf.count) q in
+      let g = ap (λ (x : Ended). x.leaf.bytes) q in
       omega (arith, g, ih m (omega (arith, c)))
 
   pub bytes_of_a_leaf : (rs : List Record) (n b : ℕ) → Bytes rs n b
@@ -257,19 +257,19 @@ module _ (w : Work) (list : List Entry) (store page : List ℕ) (rd : Ready w li
         ∙ ap (λ (e : Ended). taken_by e (records_from (span_of w) list store page start)) (ap (cut_sizes a.limit a.target 0 0) (sizes_from_a_cursor start) ∙ sym l.ended)
 
     -- what remains is what the cursor behind it stands before
-    pub the_cursor_stands_behind_the_leaf : drop t.end.count (records_from (span_of w) list store page start) ≡ records_from (span_of w) list store page t.at
+    pub the_cursor_stands_behind_the_leaf : drop t.end.leaf.count (records_from (span_of w) list store page start) ≡ records_from (span_of w) list store page t.at
     unfolding records_from spanned_records
     the_cursor_stands_behind_the_leaf =
-        drop-drop t.end.count (index_of list page start) (pending_of w list store page)
+        drop-drop t.end.leaf.count (index_of list page start) (pending_of w list store page)
         ∙ ap (λ (i : ℕ). drop i (pending_of w list store page)) (sym l.further)
 
-    pub the_leaf_has_its_bytes : t.end.bytes ≡ total (take t.end.count (records_from (span_of w) list store page start))
+    pub the_leaf_has_its_bytes : t.end.leaf.bytes ≡ total (take t.end.leaf.count (records_from (span_of w) list store page start))
     the_leaf_has_its_bytes =
         let xs : List Record = records_from (span_of w) list store page start in
         let q : t.end ≡ cut_sizes a.limit a.target 0 0 (sizes xs) = l.ended ∙ ap (cut_sizes a.limit a.target 0 0) (sym (sizes_from_a_cursor start)) in
-        ap (λ (e : Ended). e.bytes) q ∙ bytes_of_a_leaf a.limit a.target xs 0 0 t.end.count (sym (ap (λ (e : Ended). e.count) q) ∙ omega arith) ∙ omega arith
+        ap (λ (e : Ended). e.leaf.bytes) q ∙ bytes_of_a_leaf a.limit a.target xs 0 0 t.end.leaf.count (sym (ap (λ (e : Ended). e.leaf.count) q) ∙ omega arith) ∙ omega arith
 
-    pub the_leaf_has_its_records : t.end.count ≤ length (records_from (span_of w) list store page start)
+    pub the_leaf_has_its_records : t.end.leaf.count ≤ length (records_from (span_of w) list store page start)
     the_leaf_has_its_records =
         let xs : List Record = records_from (span_of w) list store page start in
         let q : t.end ≡ cut_sizes a.limit a.target 0 0 (sizes xs) = l.ended ∙ ap (cut_sizes a.limit a.target 0 0) (sym (sizes_from_a_cursor start)) in

@@ -23,8 +23,8 @@ use Rattle.leaf_cut.specs.declared.Ended.{Ended}
 use Rattle.leaf_cut.specs.declared.Taken.{Taken}
 use Rattle.leaf_cut.specs.Sizes.{cut_sizes, entry_sizes, listed_sizes, pending_sizes, index_of, sizes_from, sizes_behind, count_behind, passed_by}
 use Rattle.leaf_cut.specs.Steps.{Rest, Spread, CursorIn, EntryAt, Walked, Leafed}
-use Rattle.leaf_cut.proofs.Pieces.{drop_run}
-use Rattle.leaf_cut.proofs.Cursors.{Within, a_leaf_among_the_records_of_a_piece, entry_split, one_more_entry, records_behind_are_counted}
+use Rattle.leaf_cut.proofs.Ranges.{drop_run}
+use Rattle.leaf_cut.proofs.Cursors.{Within, a_leaf_among_some_records, entry_split, one_more_entry, records_behind_are_counted}
 
 -- ---- one entry
 
@@ -154,27 +154,27 @@ module _ (a : Aim) (list : List Entry) (page : List ℕ) (s : Span) (sp : Spread
                 rw e (record { entry_in = omega arith; skip_in = λ (g : at.entry < s.used). omega (arith, l, many, skipped); rest_in = λ (g : at.entry ≡ s.used). absurd (omega arith) })
 
       module _ (t : Taken) (q : t.end ≡ cut_sizes a.limit a.target leaf.count leaf.bytes (sizes_behind page entry at.skip))
-          (p : t.at ≡ passed_by at (count_behind entry at.skip) (t.end.count - leaf.count)) where
+          (p : t.at ≡ passed_by at (count_behind entry at.skip) (t.end.leaf.count - leaf.count)) where
         within : Within a.limit a.target xs (sizes_from list page s next) leaf.count leaf.bytes
-        within = a_leaf_among_the_records_of_a_piece a.limit a.target xs (sizes_from list page s next) leaf.count leaf.bytes
+        within = a_leaf_among_some_records a.limit a.target xs (sizes_from list page s next) leaf.count leaf.bytes
 
-        count_is : t.end.count ≡ (cut_sizes a.limit a.target leaf.count leaf.bytes xs).count
-        count_is = ap (λ (e : Ended). e.count) q
+        count_is : t.end.leaf.count ≡ (cut_sizes a.limit a.target leaf.count leaf.bytes xs).leaf.count
+        count_is = ap (λ (e : Ended). e.leaf.count) q
 
-        bytes_is : t.end.bytes ≡ (cut_sizes a.limit a.target leaf.count leaf.bytes xs).bytes
-        bytes_is = ap (λ (e : Ended). e.bytes) q
+        bytes_is : t.end.leaf.bytes ≡ (cut_sizes a.limit a.target leaf.count leaf.bytes xs).leaf.bytes
+        bytes_is = ap (λ (e : Ended). e.leaf.bytes) q
 
         cut_is : t.end.cut ≡ (cut_sizes a.limit a.target leaf.count leaf.bytes xs).cut
         cut_is = ap (λ (e : Ended). e.cut) q
 
-        few_taken : t.end.count - leaf.count ≤ length xs
+        few_taken : t.end.leaf.count - leaf.count ≤ length xs
         few_taken = omega (arith, count_is, within.upto)
 
-        further : index_of list page t.at ≡ index_of list page start + t.end.count
-        further = rw p (moved (t.end.count - leaf.count) few_taken ∙ omega (arith, w.further, count_is, within.from))
+        further : index_of list page t.at ≡ index_of list page start + t.end.leaf.count
+        further = rw p (moved (t.end.leaf.count - leaf.count) few_taken ∙ omega (arith, w.further, count_is, within.from))
 
         there : CursorIn list page s t.at
-        there = rw p (stays (t.end.count - leaf.count) few_taken)
+        there = rw p (stays (t.end.leaf.count - leaf.count) few_taken)
 
         so_far : cut_sizes a.limit a.target 0 0 (sizes_from list page s start) ≡ cut_sizes a.limit a.target leaf.count leaf.bytes (xs ++ sizes_from list page s next)
         so_far = w.ended ∙ ap (cut_sizes a.limit a.target leaf.count leaf.bytes) split
@@ -186,10 +186,10 @@ module _ (a : Aim) (list : List Entry) (page : List ℕ) (s : Span) (sp : Spread
           pub all_taken : t.at ≡ next
           unfolding passed_by
           all_taken =
-              let e : t.end.count - leaf.count ≡ count_behind entry at.skip = omega (arith, count_is, counted, within.whole (sym cut_is ∙ c)) in
-              p ∙ rw (eq-eqb (t.end.count - leaf.count) (count_behind entry at.skip) e)
+              let e : t.end.leaf.count - leaf.count ≡ count_behind entry at.skip = omega (arith, count_is, counted, within.whole (sym cut_is ∙ c)) in
+              p ∙ rw (eq-eqb (t.end.leaf.count - leaf.count) (count_behind entry at.skip) e)
 
-          pub the_leaf_goes_on : Walked a list page s start t.at (record { count = t.end.count; bytes = t.end.bytes })
+          pub the_leaf_goes_on : Walked a list page s start t.at (t.end.leaf)
           the_leaf_goes_on = record {
             there = there;
             ended = so_far ∙ within.on (sym cut_is ∙ c) ∙ rw (all_taken, count_is, bytes_is);
@@ -222,14 +222,14 @@ module _ (a : Aim) (list : List Entry) (page : List ℕ) (s : Span) (sp : Spread
           omega (arith, e, w.further)
 
       pub the_leaf_ends_in_the_rest : (t : Taken) → t.end ≡ cut_sizes a.limit a.target leaf.count leaf.bytes (run (count page - (s.low + at.skip)) (s.low + at.skip) (length_at page))
-          → t.at ≡ record { entry = s.used; skip = at.skip + (t.end.count - leaf.count) } → Leafed a list page s start t
+          → t.at ≡ record { entry = s.used; skip = at.skip + (t.end.leaf.count - leaf.count) } → Leafed a list page s start t
       the_leaf_ends_in_the_rest t q p =
-          let i = a_leaf_among_the_records_of_a_piece a.limit a.target ys [] leaf.count leaf.bytes in
-          let n : t.end.count ≡ (cut_sizes a.limit a.target leaf.count leaf.bytes ys).count = ap (λ (e : Ended). e.count) q in
+          let i = a_leaf_among_some_records a.limit a.target ys [] leaf.count leaf.bytes in
+          let n : t.end.leaf.count ≡ (cut_sizes a.limit a.target leaf.count leaf.bytes ys).leaf.count = ap (λ (e : Ended). e.leaf.count) q in
           let l : length ys ≡ count page - (s.low + at.skip) = length_run (count page - (s.low + at.skip)) (s.low + at.skip) (length_at page) in
           record {
             ended = q ∙ sym (w.ended ∙ ap (cut_sizes a.limit a.target leaf.count leaf.bytes) rest_from);
-            further = rw p (rest_index t.end.count (omega (arith, n, i.from)));
+            further = rw p (rest_index t.end.leaf.count (omega (arith, n, i.from)));
             there = rw p (record {
               entry_in = omega arith;
               skip_in = λ (g : s.used < s.used). absurd (omega arith);

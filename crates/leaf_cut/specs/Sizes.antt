@@ -23,17 +23,14 @@ sum (x ∷ xs) = x + sum xs
 -- "Cutting takes records in order until the leaf's body reaches the target. A record that would pass 4,094 is left, and ends the leaf below
 -- target." The leaf has n records with b bytes so far.
 unfoldable pub cut_sizes : ℕ → ℕ → ℕ → ℕ → List ℕ → Ended
-cut_sizes limit target n b [] = record { cut = false; count = n; bytes = b }
+cut_sizes limit target n b [] = record { cut = false; leaf = record { count = n; bytes = b } }
 cut_sizes limit target n b (s ∷ ss) = elim (ltb limit (34 * (n + 1) + (b + s))) [
-  | true ↦ record { cut = true; count = n; bytes = b }
+  | true ↦ record { cut = true; leaf = record { count = n; bytes = b } }
   | false ↦ elim (leb target (34 * (n + 1) + (b + s))) [
-    | true ↦ record { cut = true; count = n + 1; bytes = b + s }
+    | true ↦ record { cut = true; leaf = record { count = n + 1; bytes = b + s } }
     | false ↦ cut_sizes limit target (n + 1) (b + s) ss
   ]
 ]
-
-abbrev pub gauge_of : Ended → Gauge
-gauge_of e = record { count = e.count; bytes = e.bytes }
 
 -- a leaf's body: "n pointers of 34 bytes" and the values
 abbrev pub body_of : Gauge → ℕ

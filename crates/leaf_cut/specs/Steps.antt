@@ -58,13 +58,13 @@ pub record EntryAt (n : ℕ) (e : Entry) (at : Cursor) : Type 0 where
 -- what a leaf took of an entry that it came to at a cursor, and the cursor behind that
 abbrev pub EntryTaken : Aim → List ℕ → Entry → Cursor → Gauge → Taken → Type 0
 EntryTaken a page e at leaf t =
-    (t.end ≡ cut_sizes a.limit a.target leaf.count leaf.bytes (sizes_behind page e at.skip)) × (t.at ≡ passed_by at (count_behind e at.skip) (t.end.count - leaf.count))
+    (t.end ≡ cut_sizes a.limit a.target leaf.count leaf.bytes (sizes_behind page e at.skip)) × (t.at ≡ passed_by at (count_behind e at.skip) (t.end.leaf.count - leaf.count))
 
 -- what it took of the rest of a base of n records, behind the first `skip`
 abbrev pub RestTaken : Aim → List ℕ → ℕ → Span → ℕ → Gauge → Taken → Type 0
 RestTaken a page n s skip leaf t =
     (t.end ≡ cut_sizes a.limit a.target leaf.count leaf.bytes (run (n - (s.low + skip)) (s.low + skip) (length_at page)))
-    × (t.at ≡ record { entry = s.used; skip = skip + (t.end.count - leaf.count) })
+    × (t.at ≡ record { entry = s.used; skip = skip + (t.end.leaf.count - leaf.count) })
 
 -- a leaf that began at `start` and has come to `at`
 pub record Walked (a : Aim) (list : List Entry) (page : List ℕ) (s : Span) (start at : Cursor) (leaf : Gauge) : Type 0 where
@@ -76,7 +76,7 @@ pub record Walked (a : Aim) (list : List Entry) (page : List ℕ) (s : Span) (st
 -- a leaf that began at `start`, where it ends, and the cursor behind it
 pub record Leafed (a : Aim) (list : List Entry) (page : List ℕ) (s : Span) (start : Cursor) (t : Taken) : Type 0 where
   pub ended : t.end ≡ cut_sizes a.limit a.target 0 0 (sizes_from list page s start)
-  pub further : index_of list page t.at ≡ index_of list page start + t.end.count
+  pub further : index_of list page t.at ≡ index_of list page start + t.end.leaf.count
   pub there : CursorIn list page s t.at
 
 -- entries, store and base whose records can be read

@@ -1,12 +1,13 @@
 // Cutting the pending records into leaves: how large they are, and where each leaf ends. It reads entries and base page, and no value.
-// Ported from nomt/src/beatree/ops/update/leaf_updater.rs of thrumdev/nomt: `LeafGauge`, `consume_and_update_until` and `try_split_keep_chunk`.
+// Ported from nomt/src/beatree/ops/update/leaf_updater.rs of thrumdev/nomt: `LeafGauge`, `try_split_keep_chunk` and the turns of
+// `consume_and_update_until`.
 #![tactic(auto)]
 
 ghost use Rattle.std.specs.Prelude.{◌≡◌, ◌&&◌, [], ◌∷◌, ◌+◌, ◌-◌, ◌*◌, ◌^◌, ◌≤◌, ◌<◌, leb};
 ghost use Rattle.leaf_node.specs.Limits.{pages_asked};
 ghost use Rattle.leaf_node.specs.Page.{length_at, run};
 ghost use Rattle.leaf_model.specs.Cut.{target_of};
-ghost use Rattle.leaf_cut.specs.Sizes.{cut_sizes, gauge_of, body_of, passed_by};
+ghost use Rattle.leaf_cut.specs.Sizes.{cut_sizes, body_of, passed_by};
 ghost use Rattle.leaf_cut.specs.Records.{span_of};
 ghost use Rattle.leaf_cut.specs.Steps.{Modest, WithRest, Leaf, EntryAt, EntryTaken, RestTaken};
 
@@ -51,36 +52,12 @@ pub struct Cursor {
     pub skip: usize,
 }
 
-// Whether a leaf was cut, its records and the bytes of their values; where none was cut, those of all that was there. Both ends have a
-// gauge, so that the flag stands beside it.
+// Whether a leaf was cut, and its gauge; where none was cut, that of all that was there. Both ends have a gauge, so that the flag stands
+// beside it.
 #[derive(Clone, Copy)]
 pub struct Ended {
     pub cut: bool,
-    pub count: usize,
-    pub bytes: usize,
-}
-
-impl Ended {
-    fn new(cut: bool, leaf: Gauge) -> Ended
-        ensures { result ≡ record { cut = cut; count = leaf.count; bytes = leaf.bytes } }
-    {
-        Ended {
-            cut,
-            count: leaf.count,
-            bytes: leaf.bytes,
-        }
-    }
-}
-
-impl From<Ended> for Gauge {
-    ghost from_gives = { λ end gauge. gauge ≡ gauge_of end };
-
-    fn from(end: Ended) -> Gauge {
-        Gauge {
-            count: end.count,
-            bytes: end.bytes,
-        }
-    }
+    pub leaf: Gauge,
 }
 
 // A leaf, or where none was cut all that was there, and the cursor behind it.
@@ -157,9 +134,12 @@ fn consume_insert(value: usize, leaf: Gauge, aim: Aim) -> Ended
     };
     let body = after.body();
     if aim.limit < body {
-        return Ended::new(true, leaf);
+        return Ended { cut: true, leaf };
     }
-    Ended::new(aim.target <= body, after)
+    Ended {
+        cut: aim.target <= body,
+        leaf: after,
+    }
 }
 
 // A leaf that comes to a chunk: record by record, until the target is reached or a record would pass the limit.
@@ -175,14 +155,23 @@ fn try_split_keep_chunk(node: LeafNode, from: usize, to: usize, leaf: Gauge, aim
         };
         let body = after.body();
         if aim.limit < body {
-            return Ended::new(true, so_far);
+            return Ended {
+                cut: true,
+                leaf: so_far,
+            };
         }
         if aim.target <= body {
-            return Ended::new(true, after);
+            return Ended {
+                cut: true,
+                leaf: after,
+            };
         }
         so_far = after;
     }
-    Ended::new(false, so_far)
+    Ended {
+        cut: false,
+        leaf: so_far,
+    }
 }
 
 // A leaf that comes to base records `from` up to `to`: it takes them whole where its body stays below the target.
@@ -195,7 +184,10 @@ fn consume_chunk(node: LeafNode, from: usize, to: usize, leaf: Gauge, aim: Aim) 
         bytes: leaf.bytes + node.size_between(from, to),
     };
     if after.body() < aim.target {
-        return Ended::new(false, after);
+        return Ended {
+            cut: false,
+            leaf: after,
+        };
     }
     try_split_keep_chunk(node, from, to, leaf, aim)
 }
@@ -228,14 +220,14 @@ pub fn consume_entry(entry: &Entry, node: LeafNode, at: Cursor, leaf: Gauge, aim
         let end = consume_insert(entry.to - entry.from, leaf, aim);
         return Taken {
             end,
-            at: pass(at, 1, end.count - leaf.count),
+            at: pass(at, 1, end.leaf.count - leaf.count),
         };
     }
     let from = entry.from + at.skip;
     let end = consume_chunk(node, from, entry.to, leaf, aim);
     Taken {
         end,
-        at: pass(at, entry.to - from, end.count - leaf.count),
+        at: pass(at, entry.to - from, end.leaf.count - leaf.count),
     }
 }
 
@@ -249,7 +241,7 @@ pub fn consume_rest(node: LeafNode, span: Span, skip: usize, leaf: Gauge, aim: A
         end,
         at: Cursor {
             entry: span.used,
-            skip: skip + (end.count - leaf.count),
+            skip: skip + (end.leaf.count - leaf.count),
         },
     }
 }

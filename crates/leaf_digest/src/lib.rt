@@ -12,7 +12,7 @@ ghost use Rattle.leaf_digest.specs.Steps.{lent_digest_verdict, digest_work_by};
 use leaf_check::lent_base;
 use leaf_cut::{Gauge, has_pages, pending_gauge};
 use leaf_node::{LeafNode, Size};
-use leaf_work::{Entry, Work};
+use leaf_work::{DONE, Entry, WAITING, Work};
 use refusal::Refusal;
 
 // A digest's answer in numbers, for callers in C: 0 or the refusal, whether it waits for a merge, 1 or 0, how many leaves it gave, and the
@@ -106,10 +106,7 @@ pub fn digest_base<'a>(
 fn next_floor(work: &Work) -> [u8; 32]
     ensures { result ≡ cond (is_set work.now.cut) work.now.cutoff work.now.floor }
 {
-    if work.cut == 0 {
-        return work.floor;
-    }
-    work.cutoff
+    *work.cutoff().unwrap_or(&work.floor)
 }
 
 // The work record after a digest that keeps `left`, whose separator is given.
@@ -126,14 +123,14 @@ pub fn digest_work(work: &Work, left: Gauge, separator: &[u8; 32]) -> Work
     };
     if left.count == 0 {
         return Work {
-            turn: 3,
+            turn: DONE,
             over: 0,
             overriding: [0; 32],
             ..kept
         };
     }
     Work {
-        turn: 2,
+        turn: WAITING,
         over: 1,
         overriding: *separator,
         floor: next_floor(work),

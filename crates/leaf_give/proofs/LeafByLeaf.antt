@@ -145,20 +145,20 @@ module _ (size : ℕ) (w : Work) (list : List Entry) (store page area tickets : 
         -- a leaf
         module _ (f : next.end.cut ≡ true) where
           abbrev leaf : Gauge
-          leaf = record { count = next.end.count; bytes = next.end.bytes }
+          leaf = next.end.leaf
 
           abbrev l : List Record
-          l = take next.end.count R
+          l = take next.end.leaf.count R
 
           abbrev b : List Record
           b = records_from (span_of w) list store page next.at
 
-          behind_is : drop next.end.count R ≡ b
+          behind_is : drop next.end.leaf.count R ≡ b
           behind_is = the_cursor_stands_behind_the_leaf w list store page g.ready (aim_of size target) p.at next i.leafed
 
           cut_off : cut (body_limit size) target [] 0 R ≡ with_leaf l (cut (body_limit size) target [] 0 b)
           cut_off =
-              let n : taken_by next.end R ≡ some (record { leaf = l; remaining = drop next.end.count R }) = rw f in
+              let n : taken_by next.end R ≡ some (record { leaf = l; remaining = drop next.end.leaf.count R }) = rw f in
               cut_R ∙ ap (continued (body_limit size) target [] R) n ∙ ap (λ (x : List Record). with_leaf l (cut (body_limit size) target [] 0 x)) behind_is
 
           rest_off : cut_all size all ≡ after (c.leaves ++ (l ∷ [])) (cut (body_limit size) target [] 0 b)
@@ -178,12 +178,12 @@ module _ (size : ℕ) (w : Work) (list : List Entry) (store page area tickets : 
               let n : length (cut_all size all).leaves ≡ length ((c.leaves ++ (l ∷ [])) ++ d.leaves) = ap (λ (x : Cut). length x.leaves) rest_off in
               omega (arith, n, length-append (c.leaves ++ (l ∷ [])) d.leaves, length-append c.leaves (l ∷ []), cut_leaves_have_pages)
 
-          many : next.end.count ≤ length R
+          many : next.end.leaf.count ≤ length R
           many = the_leaf_has_its_records w list store page g.ready (aim_of size target) p.at next i.leafed
 
-          some_record : 0 < next.end.count
+          some_record : 0 < next.end.leaf.count
           some_record =
-              let n : length l ≡ next.end.count = length-take-le next.end.count R many in
+              let n : length l ≡ next.end.leaf.count = length-take-le next.end.leaf.count R many in
               omega (arith, n, has_records l leaf_sized.some_record)
 
           leaf_there : LeafThere size list store page (span_of w) p leaf next.at (length a) (length t)
@@ -194,7 +194,7 @@ module _ (size : ℕ) (w : Work) (list : List Entry) (store page area tickets : 
             fits = record {
               there = many;
               bytes = the_leaf_has_its_bytes w list store page g.ready (aim_of size target) p.at next i.leafed;
-              fits = record { sized = g.sized; keys = all_left l (drop next.end.count R) (rw (take-append-drop next.end.count R) (left_keyed c.leaves R R_whole)); room = leaf_sized.fits };
+              fits = record { sized = g.sized; keys = all_left l (drop next.end.leaf.count R) (rw (take-append-drop next.end.leaf.count R) (left_keyed c.leaves R R_whole)); room = leaf_sized.fits };
             };
             rest = behind_is;
             some_record = some_record;
@@ -205,11 +205,11 @@ module _ (size : ℕ) (w : Work) (list : List Entry) (store page area tickets : 
             ticket_room = the_tickets_have_room size w list store page area tickets g c p a t i.along few;
           }
 
-          pub a_leaf_can_be_given : LeafThere size list store page (span_of w) p (record { count = next.end.count; bytes = next.end.bytes }) next.at (length a) (length t)
+          pub a_leaf_can_be_given : LeafThere size list store page (span_of w) p next.end.leaf next.at (length a) (length t)
           a_leaf_can_be_given = leaf_there
 
           module _ (r : Progress) (a' t' : List ℕ)
-              (m : LeafGiven size list store page (span_of w) p (record { count = next.end.count; bytes = next.end.bytes }) next.at (cutoff_of w) a t r a' t') where
+              (m : LeafGiven size list store page (span_of w) p next.end.leaf next.at (cutoff_of w) a t r a' t') where
             given : LeafGiven size list store page (span_of w) p leaf next.at (cutoff_of w) a t r a' t'
             given = m
 

@@ -20,7 +20,7 @@ use Rattle.leaf_cut.specs.declared.Aim.{Aim}
 use Rattle.leaf_cut.specs.declared.Span.{Span}
 use Rattle.leaf_cut.specs.declared.Cursor.{Cursor}
 use Rattle.leaf_cut.specs.declared.Taken.{Taken}
-use Rattle.leaf_cut.specs.Sizes.{gauge_of, body_of}
+use Rattle.leaf_cut.specs.Sizes.{body_of}
 use Rattle.leaf_cut.specs.Records.{span_of, first_cursor, records_from}
 use Rattle.leaf_cut.specs.Steps.{CursorIn, Kept}
 use Rattle.leaf_write.specs.Filling.{LeafFits}
@@ -62,7 +62,7 @@ pub record TicketGiven (between cutoff : Option (List ℕ)) (tickets : List ℕ)
 -- how far a digest has come with a leaf and its ticket
 abbrev pub FurtherBy : Progress → Taken → Option (List ℕ) → Option (List ℕ) → List ℕ → Progress → List ℕ → Type 0
 FurtherBy p t next cutoff tickets r tickets' =
-    (r ≡ progress_of p (gauge_of t.end) t.at r.place r.separator) × (TicketGiven next cutoff tickets p.place p.separator r.place r.separator tickets')
+    (r ≡ progress_of p t.end.leaf t.at r.place r.separator) × (TicketGiven next cutoff tickets p.place p.separator r.place r.separator tickets')
 
 -- ---- one leaf, behind which stands the cursor `at`
 

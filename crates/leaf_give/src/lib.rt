@@ -1,11 +1,12 @@
-// The leaves of a digest, given out: pages into the area, tickets behind one another.
-// Ported from nomt/src/beatree/ops/update/leaf_updater.rs of thrumdev/nomt: `try_build_leaves` and the first half of `digest`.
+// How far a digest has come with giving leaves: where it begins, how it goes on with each leaf and its ticket, and whether what is left waits
+// for a merge.
+// Ported from nomt/src/beatree/ops/update/leaf_updater.rs of thrumdev/nomt: parts of `try_build_leaves` and `digest`.
 #![tactic(auto)]
 
 ghost use Rattle.std.specs.Prelude.{◌≡◌, ◌&&◌, ◌≤◌, ltb, length};
 ghost use Rattle.leaf_node.specs.Limits.{merge_below};
 ghost use Rattle.leaf_work.specs.Tests.{lent_key};
-ghost use Rattle.leaf_cut.specs.Sizes.{gauge_of, body_of};
+ghost use Rattle.leaf_cut.specs.Sizes.{body_of};
 ghost use Rattle.leaf_cut.specs.Steps.{Modest};
 ghost use Rattle.leaf_give.specs.Steps.{TicketAsked, FurtherBy, listed_in, BegunBy};
 
@@ -36,7 +37,7 @@ pub fn give_ticket(
     cutoff: Option<&[u8; 32]>,
     tickets: &mut [u8],
 ) -> Progress
-    requires { TicketAsked p (gauge_of taken.end) (length tickets.old) }
+    requires { TicketAsked p taken.end.leaf (length tickets.old) }
     ensures { FurtherBy p taken (lent_key next.entry) (lent_key cutoff.entry) tickets.old result tickets.new }
 {
     let place = put_ticket(tickets, p.place, &p.separator, next.or(cutoff));
@@ -44,8 +45,8 @@ pub fn give_ticket(
     Progress {
         at: taken.at,
         left: Gauge {
-            count: p.left.count - taken.end.count,
-            bytes: p.left.bytes - taken.end.bytes,
+            count: p.left.count - taken.end.leaf.count,
+            bytes: p.left.bytes - taken.end.leaf.bytes,
         },
         leaves: p.leaves + 1,
         place,

@@ -27,15 +27,22 @@ use Rattle.leaf_cut.specs.Steps.{Spread, CursorIn}
 use Rattle.leaf_cut.proofs.Cursors.{one_more_entry}
 use Rattle.leaf_cut.proofs.Walking.{an_entry_has_a_record}
 use Rattle.leaf_cut.proofs.Parts.{what_is_kept_is_spread, an_insert_holds_itself, a_chunk_holds_its_records, the_records_from_an_entry_on, the_records_from_the_rest_on}
-use Rattle.leaf_write.specs.Filling.{part_from, EntryThere}
+use Rattle.leaf_write.proofs.Parts.{part_from}
+use Rattle.leaf_write.specs.Filling.{EntryThere}
 use Rattle.leaf_write.proofs.Leaves.{the_entry_of_a_cursor_can_be_read}
 use Rattle.leaf_move.proofs.Under.{get_d_under, part_under}
 use Rattle.leaf_raise.specs.declared.Top.{Top}
 use Rattle.leaf_raise.specs.Raising.{lower_by, Room, Raised, RangeThere, EntryBelow}
-use Rattle.leaf_merge.specs.Lifting.{full_top, skip_at, PartBelow, Raises}
+use Rattle.leaf_merge.specs.Lifting.{full_top, skip_at, Raises}
 use Rattle.leaf_raise.proofs.Inserts.{inserts_many}
 use Rattle.leaf_raise.proofs.Raising.{nothing_is_raised, below_no_record, list_as_long, store_as_long, room_for_the_last, tops_join, room_is_left, both_are_raised}
 use Rattle.leaf_merge.proofs.Parts.{the_entry_of_the_cursor_skips, another_entry_does_not_skip}
+
+-- leaf_write's `PartThere`, but of what is below the top, and the base's rest may be empty
+pub record PartBelow (list : List Entry) (page : List ℕ) (s : Span) (at : Cursor) (top : Top) : Type 0 where
+  pub entry_in : at.entry < s.used → at.entry < length list
+  pub entry : at.entry < s.used → EntryBelow page (get_or list at.entry blank) at.skip top
+  pub rest : s.used ≤ at.entry → RangeThere page (s.low + at.skip) (count page)
 
 -- the kept records from entry e on; the base's rest is entry `used`, and none are behind it
 unfoldable pub kept_from : Span → List Entry → List ℕ → List ℕ → Cursor → ℕ → List Record

@@ -1,7 +1,6 @@
 -- All kept records are raised, part after part from the last one; what that requires.
 use Rattle.std.specs.Prelude.{cond, ◌≡◌, List, ℕ, ◌+◌, ◌≤◌, ◌<◌, eqb, length, get_or}
 use Rattle.leaf_node.specs.Record.{total}
-use Rattle.leaf_node.specs.Page.{count}
 use Rattle.leaf_work.specs.declared.Entry.{Entry}
 use Rattle.leaf_work.specs.Lent.{blank}
 use Rattle.leaf_cut.specs.declared.Span.{Span}
@@ -9,7 +8,6 @@ use Rattle.leaf_cut.specs.declared.Cursor.{Cursor}
 use Rattle.leaf_cut.specs.Records.{records_from}
 use Rattle.leaf_cut.specs.Steps.{CursorIn, Kept}
 use Rattle.leaf_raise.specs.declared.Top.{Top}
-use Rattle.leaf_raise.specs.Raising.{RangeThere, EntryBelow}
 
 -- nothing is raised yet, of records with so many bytes, which are to end at entry `room` and at the store's end
 abbrev pub full_top : ℕ → List ℕ → ℕ → Top
@@ -20,12 +18,6 @@ unfoldable pub skip_at : Cursor → ℕ → ℕ
 skip_at at e = cond (eqb e at.entry) at.skip 0
 
 -- ---- what is required
-
--- leaf_write's `PartThere`, but of what is below the top, and the base's rest may be empty
-pub record PartBelow (list : List Entry) (page : List ℕ) (s : Span) (at : Cursor) (top : Top) : Type 0 where
-  pub entry_in : at.entry < s.used → at.entry < length list
-  pub entry : at.entry < s.used → EntryBelow page (get_or list at.entry blank) at.skip top
-  pub rest : s.used ≤ at.entry → RangeThere page (s.low + at.skip) (count page)
 
 -- records from a cursor on that can be raised to entry `room`: what is raised never covers an entry or a value that is still to be read
 pub record Raises (list : List Entry) (store page : List ℕ) (s : Span) (at : Cursor) (bytes room : ℕ) : Type 0 where

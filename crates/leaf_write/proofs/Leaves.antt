@@ -31,7 +31,8 @@ use Rattle.leaf_cut.specs.Steps.{Spread, CursorIn, Kept}
 use Rattle.leaf_cut.proofs.Walking.{insert_sizes, chunk_many, an_entry_has_a_record}
 use Rattle.leaf_cut.proofs.Parts.{what_is_kept_is_spread, the_records_from_an_entry_on, the_records_from_the_rest_on}
 use Rattle.leaf_write.specs.declared.Place.{Place}
-use Rattle.leaf_write.specs.Filling.{part_from, place_behind, EntryThere, PartThere, Filling, RoomAt, LeafFits}
+use Rattle.leaf_write.proofs.Parts.{part_from, PartThere}
+use Rattle.leaf_write.specs.Filling.{place_behind, EntryThere, Filling, RoomAt, LeafFits}
 
 -- ---- records pushed in two goes
 

@@ -1,4 +1,4 @@
--- The page of a leaf, piece by piece. Assumes nothing.
+-- The page of a leaf, record by record and range by range. Assumes nothing.
 use mathlib.Core.Path.{◌≡◌, refl, sym, ap, ◌∙◌}
 use mathlib.Core.Bool.{not}
 use mathlib.Core.List.{List, [], ◌∷◌}

@@ -1,8 +1,8 @@
--- The page of a leaf, filled from store and base: the pieces that are pushed, and what pushing them requires.
+-- The page of a leaf, filled from store and base: the records that are pushed, and what pushing them requires.
 use Rattle.std.specs.Prelude.{cond, ◌≡◌, List, [], ◌∷◌, ℕ, ◌+◌, ◌-◌, ◌≤◌, ◌<◌, ltb, length, get_or, take, drop}
 use Rattle.std.proofs.Math.Option.{Option, none, some}
 use Rattle.leaf_node.specs.Record.{Record, total}
-use Rattle.leaf_node.specs.Page.{count, pointer, key_at, records_between}
+use Rattle.leaf_node.specs.Page.{count, pointer, key_at}
 use Rattle.leaf_node.specs.Build.{pushed}
 use Rattle.leaf_node.specs.Steps.{Laid}
 use Rattle.leaf_node.specs.Fits.{All, Keyed, Fits}
@@ -12,18 +12,11 @@ use Rattle.leaf_work.specs.Lent.{blank, an_insert}
 use Rattle.leaf_cut.specs.declared.Gauge.{Gauge}
 use Rattle.leaf_cut.specs.declared.Span.{Span}
 use Rattle.leaf_cut.specs.declared.Cursor.{Cursor}
-use Rattle.leaf_cut.specs.Records.{entry_records}
 use Rattle.leaf_write.specs.declared.Place.{Place}
 
 -- "an insert with its place in the store"
 unfoldable pub insert_record : List ℕ → Entry → Record
 insert_record store e = record { key = e.key; value = take (e.to - e.from) (drop e.from store); flag = is_set e.flag }
-
--- what the cursor's entry, or the base's rest, has from it on
-unfoldable pub part_from : Span → List Entry → List ℕ → List ℕ → Cursor → List Record
-part_from s list store page at =
-    cond (ltb at.entry s.used) (entry_records store page (get_or list at.entry blank) at.skip)
-    (records_between page (s.low + at.skip) (count page))
 
 -- the place behind records that were pushed
 abbrev pub place_behind : Place → List Record → Place
@@ -48,11 +41,6 @@ pub record InsertIn (e : Entry) (end : ℕ) : Type 0 where
 pub record EntryThere (store page : List ℕ) (e : Entry) (skip : ℕ) : Type 0 where
   pub insert : e.kind ≡ 1 → (skip ≡ 0) × InsertIn e (length store)
   pub chunk : (e.kind ≡ 1 → ⊥) → RangeIn page (e.from + skip) e.to
-
-pub record PartThere (list : List Entry) (store page : List ℕ) (s : Span) (at : Cursor) : Type 0 where
-  pub entry_in : at.entry < s.used → at.entry < length list
-  pub entry : at.entry < s.used → EntryThere store page (get_or list at.entry blank) at.skip
-  pub rest : s.used ≤ at.entry → RangeIn page (s.low + at.skip) (count page)
 
 -- records have room in a page of m bytes as records from j on, with their values from byte `at` on
 pub record Filling (m j at : ℕ) (rs : List Record) : Type 0 where

@@ -1,5 +1,5 @@
 // What a digest gives of a leaf: its page, written straight from store and base, and its ticket; and the keys between leaves.
-// Ported from nomt/src/beatree/ops/update/leaf_updater.rs of thrumdev/nomt: `build_leaf` and `op_first_key`.
+// Ported from nomt/src/beatree/ops/update/leaf_updater.rs of thrumdev/nomt: the turns of `build_leaf`.
 #![tactic(auto)]
 
 ghost use Rattle.std.specs.Prelude.{◌≡◌, [], ◌∷◌, ◌+◌, ◌≤◌, ◌<◌, length, take};
@@ -47,7 +47,8 @@ fn push_insert(entry: &Entry, store: &[u8], d: &mut [u8], place: Place) -> Place
     ensures { PushedAt d.old place (insert_record store.now entry.now ∷ []) d.new result }
 {
     let value = &store[entry.from..entry.to];
-    let end = push_cell(d, place.index, place.at, &entry.key, value, entry.flag != 0);
+    let flag = entry.is_flagged();
+    let end = push_cell(d, place.index, place.at, &entry.key, value, flag);
     Place {
         index: place.index + 1,
         at: end,
@@ -104,7 +105,7 @@ pub fn put_ticket(
     cutoff: Option<&[u8; 32]>,
 ) -> usize
     requires { at + 65 ≤ length tickets.old }
-    ensures { (tickets.new ≡ put tickets.old at (packed_with separator.now (lent_key cutoff.entry))) × (result ≡ at + length (packed_with separator.now (lent_key cutoff.entry))) × (result ≤ at + 65) }
+    ensures { let t = packed_with separator.now (lent_key cutoff.entry) in (tickets.new ≡ put tickets.old at t) × (result ≡ at + length t) × (result ≤ at + 65) }
 {
     match cutoff {
         Some(cutoff) => {

@@ -9,4 +9,4 @@ lower-next-requires c =
 
 pub returns : goal.returns
 returns c =
-    an_insert_is_lifted c.args.store.now c.args.entry c.args.top c.requires.0 c.requires.1 _ c.lower-next.ensures _ _ c.listed_below.ensures c.move_up.ensures
+    an_insert_is_lifted c.args.store.now c.args.entry c.args.top c.requires.0 c.requires.1 _ c.lower-next.ensures c.listed_below.result _ (rw (← c.is_flagged.ensures) c.listed_below.ensures) c.move_up.ensures

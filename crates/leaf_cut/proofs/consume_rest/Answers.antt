@@ -3,7 +3,7 @@
 use Rattle.std.proofs.Common.{rules}
 use native.Mathlib.Omega.{arith}
 use Rattle.leaf_cut.proofs.Cursors.{a_leaf_does_not_shrink, few_records_are_taken}
-use Rattle.leaf_cut.proofs.Pieces.{records_are_few}
+use Rattle.leaf_cut.proofs.Ranges.{records_are_few}
 use Rattle.leaf_cut.proofs.consume_rest.Goals as goal
 
 pub overflow_sub-result : goal.overflow_sub-result

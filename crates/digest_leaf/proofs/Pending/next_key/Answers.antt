@@ -1,7 +1,7 @@
 -- `digest_leaf::Pending::next_key` meets its contract.
 use Rattle.std.proofs.Common.{arith}
 use Rattle.leaf_cut.specs.Records.{span_of}
-use Rattle.digest_leaf.proofs.Consuming.{it_is_in_the_list}
+use Rattle.digest_leaf.proofs.Used.{it_is_in_the_list}
 use Rattle.digest_leaf.proofs.Keys.{an_entry_asks, an_entrys_key_is_first, the_rests_key_is_first, no_record_is_left}
 use Rattle.digest_leaf.proofs.Pending.next_key.Goals as goal
 
