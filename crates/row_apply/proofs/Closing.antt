@@ -36,10 +36,10 @@ all_are_as_long n (x ∷ xs) h = cons (h 0 (omega arith)) (all_are_as_long n xs 
 
 module _ (list : List Entry) (store : List ℕ) (lent : LentRow) (area tickets : List ℕ) where
   abbrev pages : List ℕ
-  pages = lent.pages.now
+  pages = lent.row.pages.now
 
   abbrev separators : List (List ℕ)
-  separators = lent.separators.now
+  separators = lent.row.separators.now
 
   abbrev changes : List (List ℕ)
   changes = lent.changes.now

@@ -41,14 +41,14 @@ module _ (list : List Entry) (store pages : List ℕ) (separators changes : List
 module _ (list : List Entry) (store : List ℕ) (lent : LentRow) (area tickets : List ℕ) where
   -- the same by what a row call only reads
   abbrev pub TakenTo : Result RowAt Refusal → List Entry → List ℕ → List ℕ → List ℕ → Type 0
-  TakenTo r list' store' area' tickets' = RowTaken list store lent.pages.now lent.separators.now lent.changes.now lent.values.now area tickets r list' store' area' tickets'
+  TakenTo r list' store' area' tickets' = RowTaken list store lent.row.pages.now lent.row.separators.now lent.changes.now lent.values.now area tickets r list' store' area' tickets'
 
   abbrev pub LentSays : Result ℕ Refusal → List Entry → List ℕ → List ℕ → List ℕ → Type 0
-  LentSays r list' store' area' tickets' = RowSays list store lent.pages.now lent.separators.now lent.changes.now lent.values.now area tickets (row_reply r) list' store' area' tickets'
+  LentSays r list' store' area' tickets' = RowSays list store lent.row.pages.now lent.row.separators.now lent.changes.now lent.values.now area tickets (row_reply r) list' store' area' tickets'
 
 -- keys have 32 bytes, changes 40
 pub record RowLent (lent : LentRow) : Type 0 where
-  pub keyed : All (λ s. length s ≡ 32) lent.separators.now
+  pub keyed : All (λ s. length s ≡ 32) lent.row.separators.now
   pub packed : All (λ c. length c ≡ 40) lent.changes.now
 
 -- "on 15 or 16 in the middle, all else checked, it fills area, tickets, list and store with zeros"

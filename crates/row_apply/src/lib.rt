@@ -11,7 +11,7 @@ use leaf_node::PAGE;
 use leaf_work::{Entry, Room};
 use refusal::Refusal;
 use row_changes::LeafChange;
-use row_check::{Lengths, row_verdict};
+use row_check::{Lengths, Row, row_verdict};
 use row_leaf::{LentRow, RowAt, Turn, leaf_at, load_leaf};
 use row_leaves::{all_turns, begin_row};
 
@@ -57,12 +57,12 @@ fn take_turns(
     requires { RowAsked list.old store.old lent area.old tickets.old }
     ensures { TakenTo list.old store.old lent.entry area.old tickets.old result list.new store.new area.new tickets.new }
 {
-    if !is_bare(lent.separators.len(), lent.changes.len()) {
+    if !is_bare(lent.row.separators.len(), lent.changes.len()) {
         return all_turns(list, store, lent, area, tickets);
     }
     let turn = Turn {
         at: begin_row(),
-        leaf: leaf_at(lent.separators, 0),
+        leaf: leaf_at(lent.row.separators, 0),
         to: lent.changes.len(),
     };
     load_leaf(turn, list, store, lent, area, tickets)
@@ -109,7 +109,7 @@ fn new_row(
         area: area.len(),
         tickets: tickets.len(),
     };
-    row_verdict(lengths, lent.pages, lent.separators, lent.changes, PAGE)?;
+    row_verdict(lengths, lent.row, lent.changes, PAGE)?;
     list.fill(blank_entry());
     store.fill(0);
     let turned = take_turns(list, store, lent, area, tickets);
@@ -131,8 +131,7 @@ pub fn apply_row(
     ensures { RowSays list.old store.old pages.now separators.now changes.now values.now area.old tickets.old result list.new store.new area.new tickets.new }
 {
     let lent = LentRow {
-        pages,
-        separators,
+        row: Row { pages, separators },
         changes,
         values,
     };

@@ -1,12 +1,14 @@
 -- What is read of one change. Assumes nothing.
-use mathlib.Core.Path.{◌≡◌, sym}
+use mathlib.Core.Path.{◌≡◌, refl, sym}
 use mathlib.Core.Bool.{Bool, true, false, not}
 use mathlib.Core.List.{List}
-use Prim.Native.Nat.{ℕ, ◌+◌, ◌*◌, ◌<◌}
+use Prim.Native.Nat.{ℕ, ◌+◌, ◌<◌}
 use native.Mathlib.Omega.{arith}
 use lib.Dec.{eqb}
-use lib.ListN.{length, get_or, take}
+use lib.ListN.{length, get_or, take, drop}
 use lib.Seq.{length-take-le}
+use Rattle.std.specs.Int.{w32, from_le_bytes}
+use Rattle.std.proofs.lemmas.List.{get_or-take, get_or-drop}
 use borrow.Author.Tests.{not-true, not-false}
 use Rattle.row_changes.specs.Packed.{key_of, is_put, flag_of, length_of, value_length}
 use Rattle.row_changes.specs.Tests.{size_with, put_body}
@@ -32,13 +34,12 @@ pub flag_is_read : (c : List ℕ) (x : ℕ) → x ≡ get_or c 33 0 → not (eqb
 unfolding flag_of
 flag_is_read c x e = rw e
 
-module _ (c : List ℕ) (a b d f : ℕ) (ea : a ≡ get_or c 36 0) (eb : b ≡ get_or c 37 0) (ed : d ≡ get_or c 38 0) (ef : f ≡ get_or c 39 0) where
-  pub length_is_read : a + 256 * b + 65536 * (d + 256 * f) ≡ length_of c
-  unfolding length_of
-  length_is_read = rw (ea, eb, ed, ef)
-
-pub length_is_small : (a b d f : ℕ) → a < 256 → b < 256 → d < 256 → f < 256 → a + 256 * b + 65536 * (d + 256 * f) < 4294967296
-length_is_small a b d f ha hb hd hf = omega (arith, ha, hb, hd, hf)
+-- the library's number of four bytes, the first one the lowest
+pub length_is_read : (c b : List ℕ) (n : ℕ) → b ≡ take 4 (drop 36 c) → n ≡ from_le_bytes w32 b → n ≡ length_of c
+unfolding length_of
+length_is_read c b n e q =
+    let byte : (i : ℕ) → i < 4 → get_or b i 0 ≡ get_or c (36 + i) 0 = λ i h. rw (e, get_or-take 4 (drop 36 c) i 0 h, get_or-drop 36 c i 0) refl in
+    rw q (omega (arith, byte 0 (omega arith), byte 1 (omega arith), byte 2 (omega arith), byte 3 (omega arith)))
 
 -- ---- what it takes
 

@@ -35,7 +35,7 @@ pub fn flag_at(change: &LeafChange) -> bool
 pub fn len_at(change: &LeafChange) -> usize
     ensures { (result ≡ length_of change.now) × (result < 4294967296) }
 {
-    u32::from_le_bytes([change[36], change[37], change[38], change[39]]) as usize
+    u32::from_le_bytes(*bytes_from(change, 36)) as usize
 }
 
 // What a new value takes, with `beside` bytes more; a deletion takes nothing.

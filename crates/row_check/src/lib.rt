@@ -25,6 +25,13 @@ pub struct Lengths {
     pub tickets: usize,
 }
 
+// A row as calls are lent it: its pages, one behind the other, and their separators.
+#[derive(Clone, Copy)]
+pub struct Row<'a> {
+    pub pages: &'a [u8],
+    pub separators: &'a [[u8; 32]],
+}
+
 // The most pages of a row.
 pub const MOST_LEAVES: usize = 16;
 
@@ -50,25 +57,25 @@ fn lower(v: Result<(), Refusal>, w: Result<(), Refusal>) -> Result<(), Refusal>
 }
 
 // Nos. 2 to 6 of leaf i, whose cutoff is the next separator.
-fn leaf_verdict(pages: &[u8], separators: &[[u8; 32]], i: usize, size: Size) -> Result<(), Refusal>
-    requires { LeafThere size.bytes pages.now separators.now i }
-    ensures { number_of result ≡ leaf_verdict size.bytes pages.now separators.now i }
+fn leaf_verdict(row: Row, i: usize, size: Size) -> Result<(), Refusal>
+    requires { LeafThere size.bytes row.pages.now row.separators.now i }
+    ensures { number_of result ≡ leaf_verdict size.bytes row.entry.pages.now row.entry.separators.now i }
 {
     let from = i * size.bytes;
     let to = from + size.bytes;
-    let cutoff = separators.get(i + 1);
-    base_verdict(&pages[from..to], &separators[i], cutoff, size)?;
+    let cutoff = row.separators.get(i + 1);
+    base_verdict(&row.pages[from..to], &row.separators[i], cutoff, size)?;
     Ok(())
 }
 
 // Nos. 2 to 6 of all leaves: the lowest number over all of them.
-fn leaves_verdict(pages: &[u8], separators: &[[u8; 32]], size: Size) -> Result<(), Refusal>
-    requires { WholeRow size.bytes pages.now separators.now }
-    ensures { number_of result ≡ leaves_verdict size.bytes 0 (row_of size.bytes pages.now separators.now) }
+fn leaves_verdict(row: Row, size: Size) -> Result<(), Refusal>
+    requires { WholeRow size.bytes row.pages.now row.separators.now }
+    ensures { number_of result ≡ leaves_verdict size.bytes 0 (row_of size.bytes row.entry.pages.now row.entry.separators.now) }
 {
     let mut lowest = Ok(());
-    for i in 0..separators.len() {
-        lowest = lower(lowest, leaf_verdict(pages, separators, i, size));
+    for i in 0..row.separators.len() {
+        lowest = lower(lowest, leaf_verdict(row, i, size));
     }
     lowest
 }
@@ -89,14 +96,14 @@ fn short_from_zero(separators: &[[u8; 32]]) -> bool
 }
 
 // What refuses a row alone: Nos. 1 to 6, and 18.
-pub fn lent_row_verdict(pages: &[u8], separators: &[[u8; 32]], size: Size) -> Result<(), Refusal>
-    ensures { number_of result ≡ lent_row_verdict size.bytes pages.now separators.now }
+pub fn lent_row_verdict(row: Row, size: Size) -> Result<(), Refusal>
+    ensures { number_of result ≡ lent_row_verdict size.bytes row.entry.pages.now row.entry.separators.now }
 {
-    if !whole_pages(pages.len(), separators.len(), size) {
+    if !whole_pages(row.pages.len(), row.separators.len(), size) {
         return Err(Refusal::PageLength);
     }
-    leaves_verdict(pages, separators, size)?;
-    if !short_from_zero(separators) {
+    leaves_verdict(row, size)?;
+    if !short_from_zero(row.separators) {
         return Err(Refusal::LongRow);
     }
     Ok(())
@@ -157,16 +164,15 @@ fn call_verdict(
 // What refuses a row and its changes before any turn is taken.
 pub fn row_verdict(
     lent: Lengths,
-    pages: &[u8],
-    separators: &[[u8; 32]],
+    row: Row,
     changes: &[LeafChange],
     size: Size,
 ) -> Result<(), Refusal>
-    ensures { number_of result ≡ row_verdict size.bytes lent.room.entries lent.room.bytes pages.now separators.now changes.now lent.values lent.area lent.tickets }
+    ensures { number_of result ≡ row_verdict size.bytes lent.room.entries lent.room.bytes row.entry.pages.now row.entry.separators.now changes.now lent.values lent.area lent.tickets }
 {
-    if !whole_pages(pages.len(), separators.len(), size) {
+    if !whole_pages(row.pages.len(), row.separators.len(), size) {
         return Err(Refusal::PageLength);
     }
-    leaves_verdict(pages, separators, size)?;
-    call_verdict(lent, separators, changes, size)
+    leaves_verdict(row, size)?;
+    call_verdict(lent, row.separators, changes, size)
 }

@@ -39,17 +39,18 @@ pub record ChangeTaken (t : Taking) (list : List Entry) (store page c values : L
 
 -- ---- all of them
 
-pub record ChangesThere (w : Work) (list : List Entry) (store page : List ℕ) (changes : List (List ℕ)) (values : List ℕ) : Type 0 where
-  pub values_there : values_length changes ≤ length values
-  pub loaded : Loaded 4096 w list store page (edits_of changes values)
+module _ (w : Work) (list : List Entry) (store page : List ℕ) (changes : List (List ℕ)) (values : List ℕ) where
+  pub record ChangesThere : Type 0 where
+    pub values_there : values_length changes ≤ length values
+    pub loaded : Loaded 4096 w list store page (edits_of changes values)
 
--- all changes are made
-pub record AllMade (w : Work) (list : List Entry) (store page : List ℕ) (changes : List (List ℕ)) (values : List ℕ) (t : Taking) (list' : List Entry) (store' : List ℕ) : Type 0 where
-  pub value_is : t.value ≡ values_length changes
-  pub loaded : Loaded 4096 t.work list' store' page []
-  pub changed : Stays w t.work list' store' page (changed_all (edits_of changes values) (pending_of w list store page))
+  -- all changes are made
+  pub record AllMade (t : Taking) (list' : List Entry) (store' : List ℕ) : Type 0 where
+    pub value_is : t.value ≡ values_length changes
+    pub loaded : Loaded 4096 t.work list' store' page []
+    pub changed : Stays w t.work list' store' page (changed_all (edits_of changes values) (pending_of w list store page))
 
--- room alone refuses them, and where it doesn't, they are made
-pub record ChangesTaken (w : Work) (list : List Entry) (store page : List ℕ) (changes : List (List ℕ)) (values : List ℕ) (r : Result Taking Refusal) (list' : List Entry) (store' : List ℕ) : Type 0 where
-  pub number_is : number_of r ≡ rooms_verdict (length list) (length store) (edits_of changes values) (pending_of w list store page)
-  pub made : IfOk r (λ t. AllMade w list store page changes values t list' store')
+  -- room alone refuses them, and where it doesn't, they are made
+  pub record ChangesTaken (r : Result Taking Refusal) (list' : List Entry) (store' : List ℕ) : Type 0 where
+    pub number_is : number_of r ≡ rooms_verdict (length list) (length store) (edits_of changes values) (pending_of w list store page)
+    pub made : IfOk r (λ t. AllMade t list' store')

@@ -11,6 +11,7 @@ use borrow.Author.Tests.{le-leb}
 use Rattle.std.specs.Prelude as std
 use Rattle.std.specs.Option.{is_some}
 use Rattle.std.specs.Bool.{then_some}
+use Rattle.bit_ops.specs.Steps.{zeros}
 use Rattle.leaf_node.specs.Limits.{PageSize, merge_below, pages_asked}
 use Rattle.leaf_node.specs.Record.{Record, body, total}
 use Rattle.leaf_node.specs.Build.{put}
@@ -24,7 +25,7 @@ use Rattle.leaf_model.proofs.Cutting.{Fitting}
 use Rattle.leaf_model.proofs.Plan.{leaves_never_more_than_pages_asked}
 use Rattle.leaf_work.specs.declared.Work.{Work}
 use Rattle.leaf_work.specs.declared.Entry.{Entry}
-use Rattle.leaf_work.specs.Lent.{cutoff_of, separator_of, regarded}
+use Rattle.leaf_work.specs.Lent.{blank, cutoff_of, separator_of, regarded}
 use Rattle.leaf_work.specs.Pending.{pending_of}
 use Rattle.leaf_work.specs.Verdict.{lent_verdict, has_pages, digest_verdict}
 use Rattle.leaf_work.specs.Digest.{Digested, digest_reply_by, pages_of, tickets_of, ticket_of, digest_done}
@@ -40,7 +41,7 @@ use Rattle.leaf_claim.proofs.Reached.{Reached, separator_has_32_bytes, cutoff_ha
 use Rattle.leaf_claim.proofs.Leaves.{tickets_are_read_back}
 use Rattle.digest.specs.Steps.{Ready, outcome_of}
 use Rattle.digest.proofs.Calls.{an_accepted_work_is_ready}
-use Rattle.row_work.specs.Loaded.{Rests}
+use Rattle.row_work.specs.Loaded.{Waits}
 use Rattle.row_work.proofs.Holds.{state, the_work_is_reached}
 use Rattle.row_work.proofs.Digesting.{a_digest_rests}
 use Rattle.row_tickets.specs.Linked.{linked_all, last_linked, separators_read}
@@ -194,7 +195,8 @@ module _ (at : RowAt) (w : Work) (list : List Entry) (store page area tickets : 
           ∙ ap (λ (n : ℕ). take n area ++ (A ++ drop (n + length A) area)) f
           ∙ sym (put_parts area (at.leaves * 4096) A)
 
-      resting : Rests 4096 w' list' store' p.left (separator_after (separator_of w) p.leaves p.left) c
+      resting : (nonempty p.left ≡ true → Waits 4096 w' list' store' p.left (separator_after (separator_of w) p.leaves p.left) c)
+          × (p.left ≡ [] → (list' ≡ replicate (length list') blank) × (store' ≡ zeros (length store')))
       resting =
           rw (m.work_is, m.list_is, m.store_is) (a_digest_rests 4096 q w list store page rest b h.loaded (rw eb has_room))
 
@@ -202,8 +204,8 @@ module _ (at : RowAt) (w : Work) (list : List Entry) (store page area tickets : 
       between = go (is_some r.cutoff) waits_or_not
         where
           go : (b : Bool) → b ≡ nonempty p.left → Between (then_some b w') list' store' p.left (separator_after (separator_of w) p.leaves p.left) c
-          go true e = (sym e, resting.waits (sym e))
-          go false e = let z = no_record p.left (sym e) in (z, (resting.clear z).0, (resting.clear z).1)
+          go true e = (sym e, resting.0 (sym e))
+          go false e = let z = no_record p.left (sym e) in (z, (resting.1 z).0, (resting.1 z).1)
 
       pub its_leaves_are_given : (after : RowAt) (tickets' : List ℕ) → (after ≡ given_by at r w' own') × (tickets' ≡ linked_all at.leaves at.last (separators_read r.leaves own') tickets)
           → LeavesGiven at (separator_of w) c P at.change at.value area tickets after list' store' (take from area ++ (rest' ++ drop (length area - from) (drop from area))) tickets'

@@ -63,14 +63,15 @@ pub record DigestThere (at : RowAt) (w : Work) (list : List Entry) (store page a
   pub ticket_room : (at.leaves + pages_asked 4096 (body (pending_of w list store page))) * 65 ≤ length tickets
 
 -- the leaves of pending records that begin at s, under the cutoff c, come behind those of the new row
-pub record LeavesGiven (at : RowAt) (s : List ℕ) (c : Option (List ℕ)) (pending : List Record) (to value : ℕ) (area tickets : List ℕ) (r : RowAt) (list' : List Entry) (store' area' tickets' : List ℕ) : Type 0 where
-  pub leaves_are : r.leaves ≡ at.leaves + length (plan 4096 c pending).leaves
-  pub last_is : r.last ≡ last_linked at.leaves at.last (map (λ l. l.separator) (leaves_by s c (plan 4096 c pending)))
-  pub change_is : r.change ≡ to
-  pub value_is : r.value ≡ value
-  pub area_is : area' ≡ put area (at.leaves * 4096) (pages_of 4096 (leaves_by s c (plan 4096 c pending)))
-  pub tickets_are : tickets' ≡ linked_all at.leaves at.last (map (λ l. l.separator) (leaves_by s c (plan 4096 c pending))) tickets
-  pub rests : Between r.waiting list' store' (plan 4096 c pending).left (separator_after s (plan 4096 c pending).leaves (plan 4096 c pending).left) c
+module _ (at : RowAt) (s : List ℕ) (c : Option (List ℕ)) (pending : List Record) (to value : ℕ) (area tickets : List ℕ) where
+  pub record LeavesGiven (r : RowAt) (list' : List Entry) (store' area' tickets' : List ℕ) : Type 0 where
+    pub leaves_are : r.leaves ≡ at.leaves + length (plan 4096 c pending).leaves
+    pub last_is : r.last ≡ last_linked at.leaves at.last (map (λ l. l.separator) (leaves_by s c (plan 4096 c pending)))
+    pub change_is : r.change ≡ to
+    pub value_is : r.value ≡ value
+    pub area_is : area' ≡ put area (at.leaves * 4096) (pages_of 4096 (leaves_by s c (plan 4096 c pending)))
+    pub tickets_are : tickets' ≡ linked_all at.leaves at.last (map (λ l. l.separator) (leaves_by s c (plan 4096 c pending))) tickets
+    pub rests : Between r.waiting list' store' (plan 4096 c pending).left (separator_after s (plan 4096 c pending).leaves (plan 4096 c pending).left) c
 
 -- the same of a leaf that is loaded
 abbrev pub LeafDigested : RowAt → LoadedLeaf → List Entry → List ℕ → List ℕ → List ℕ → RowAt → List Entry → List ℕ → List ℕ → List ℕ → Type 0
@@ -104,28 +105,36 @@ pub record LeafRight (at : RowAt) (leaf : LeafAt) (pages : List ℕ) : Type 0 wh
   pub base : is_based leaf ≡ true → base_verdict 4096 (page_in leaf pages) leaf.separator (cutoff_in leaf) ≡ 0
   pub bare : leaf.page ≡ None → (leaf.separator ≡ zero_key) × (leaf.cutoff ≡ None) × (at.waiting ≡ None)
 
-pub record LoadThere (at : RowAt) (leaf : LeafAt) (list : List Entry) (store pages : List ℕ) (changes : List (List ℕ)) (to : ℕ) (values area tickets : List ℕ) : Type 0 where
-  pub leaf_right : LeafRight at leaf pages
-  pub room : room_right 4096 (length list) (length store) ≡ true
-  pub changes_there : at.change ≤ to
-  pub changes_in_lem : to ≤ length changes
-  pub values_in : at.value ≤ length values
-  pub values_there : values_length (changes_in at changes to) ≤ length (drop at.value values)
-  pub right : EditsRight 4096 (edits_in at changes to values)
-  pub above : All (λ e. Le leaf.separator e.key) (edits_in at changes to values)
-  pub below : All (λ e. below_cutoff (cutoff_in leaf) e.key ≡ true) (edits_in at changes to values)
-  pub rests : Between at.waiting list store (kept_by at list store) (begins_at at leaf) (some leaf.separator)
-  pub area_room : (at.leaves + pages_asked 4096 (body (pending_in at leaf list store pages (edits_in at changes to values)))) * 4096 ≤ length area
-  pub ticket_room : (at.leaves + pages_asked 4096 (body (pending_in at leaf list store pages (edits_in at changes to values)))) * 65 ≤ length tickets
+module _ (at : RowAt) (leaf : LeafAt) (list : List Entry) (store pages : List ℕ) (changes : List (List ℕ)) (to : ℕ) (values area tickets : List ℕ) where
+  -- what is pending when its changes are made, and where the value of the next change begins then
+  abbrev pub pending_then : List Record
+  pending_then = pending_in at leaf list store pages (edits_in at changes to values)
 
--- "on 15 or 16 in the middle"; else the new row goes on
-pub record LeafLoaded (at : RowAt) (leaf : LeafAt) (list : List Entry) (store pages : List ℕ) (changes : List (List ℕ)) (to : ℕ) (values area tickets : List ℕ) (r : Result RowAt Refusal) (list' : List Entry) (store' area' tickets' : List ℕ) : Type 0 where
-  pub number_is : number_of r ≡ load_verdict (length list) (length store) (kept_by at list store) (records (page_in leaf pages)) (edits_in at changes to values)
-  pub given : IfOk r (λ x. LeavesGiven at (begins_at at leaf) (cutoff_in leaf) (pending_in at leaf list store pages (edits_in at changes to values)) to (at.value + values_length (changes_in at changes to)) area tickets x list' store' area' tickets')
+  abbrev pub value_then : ℕ
+  value_then = at.value + values_length (changes_in at changes to)
+
+  pub record LoadThere : Type 0 where
+    pub leaf_right : LeafRight at leaf pages
+    pub room : room_right 4096 (length list) (length store) ≡ true
+    pub changes_there : at.change ≤ to
+    pub changes_in_lem : to ≤ length changes
+    pub values_in : at.value ≤ length values
+    pub values_there : values_length (changes_in at changes to) ≤ length (drop at.value values)
+    pub right : EditsRight 4096 (edits_in at changes to values)
+    pub above : All (λ e. Le leaf.separator e.key) (edits_in at changes to values)
+    pub below : All (λ e. below_cutoff (cutoff_in leaf) e.key ≡ true) (edits_in at changes to values)
+    pub rests : Between at.waiting list store (kept_by at list store) (begins_at at leaf) (some leaf.separator)
+    pub area_room : (at.leaves + pages_asked 4096 (body pending_then)) * 4096 ≤ length area
+    pub ticket_room : (at.leaves + pages_asked 4096 (body pending_then)) * 65 ≤ length tickets
+
+  -- "on 15 or 16 in the middle"; else the new row goes on
+  pub record LeafLoaded (r : Result RowAt Refusal) (list' : List Entry) (store' area' tickets' : List ℕ) : Type 0 where
+    pub number_is : number_of r ≡ load_verdict (length list) (length store) (kept_by at list store) (records (page_in leaf pages)) (edits_in at changes to values)
+    pub given : IfOk r (λ x. LeavesGiven at (begins_at at leaf) (cutoff_in leaf) pending_then to value_then area tickets x list' store' area' tickets')
 
 -- the same of a turn, and of what a row call only reads
 abbrev pub LoadAsked : Turn → List Entry → List ℕ → LentRow → List ℕ → List ℕ → Type 0
-LoadAsked t list store lent area tickets = LoadThere t.at t.leaf list store lent.pages.now lent.changes.now t.to lent.values.now area tickets
+LoadAsked t list store lent area tickets = LoadThere t.at t.leaf list store lent.row.pages.now lent.changes.now t.to lent.values.now area tickets
 
 abbrev pub LoadGiven : Turn → List Entry → List ℕ → LentRow → List ℕ → List ℕ → Result RowAt Refusal → List Entry → List ℕ → List ℕ → List ℕ → Type 0
-LoadGiven t list store lent area tickets = LeafLoaded t.at t.leaf list store lent.pages.now lent.changes.now t.to lent.values.now area tickets
+LoadGiven t list store lent area tickets = LeafLoaded t.at t.leaf list store lent.row.pages.now lent.changes.now t.to lent.values.now area tickets

@@ -16,14 +16,14 @@ use leaf_open::fresh_work;
 use leaf_work::{Entry, Room, Work};
 use refusal::Refusal;
 use row_changes::{LeafChange, key_of};
+use row_check::Row;
 use row_ingest::take_changes;
 use row_tickets::{link, link_leaves};
 
-// What a row call is lent and only reads: the row's pages and separators, the changes, and their values.
+// What a row call is lent and only reads: the row, the changes, and their values.
 #[derive(Clone, Copy)]
 pub struct LentRow<'a> {
-    pub pages: &'a [u8],
-    pub separators: &'a [[u8; 32]],
+    pub row: Row<'a>,
     pub changes: &'a [LeafChange],
     pub values: &'a [u8],
 }
@@ -91,12 +91,11 @@ pub fn changes_end(changes: &[LeafChange], from: usize, leaf: LeafAt) -> usize
     let Some(cutoff) = leaf.cutoff else {
         return changes.len();
     };
-    for i in from..changes.len() {
-        if !less(key_of(&changes[i]), &cutoff) {
-            return i;
-        }
+    let behind = &changes[from..];
+    match behind.iter().position(|c| !less(key_of(c), &cutoff)) {
+        Some(taken) => from + taken,
+        None => changes.len(),
     }
-    changes.len()
 }
 
 // Whether a leaf is loaded: it takes a change, or records wait for a merge.
@@ -151,7 +150,7 @@ fn base_of(leaf: LeafAt, pages: &[u8]) -> LeafNode<'_>
 {
     let page = page_in(leaf, pages);
     if leaf.page.is_none() {
-        return LeafNode::ignored(page);
+        return LeafNode::ignored();
     }
     LeafNode {
         page,
@@ -242,7 +241,7 @@ pub fn load_leaf(
     ensures { LoadGiven turn list.old store.old lent.entry area.old tickets.old result list.new store.new area.new tickets.new }
 {
     let at = turn.at;
-    let node = base_of(turn.leaf, lent.pages);
+    let node = base_of(turn.leaf, lent.row.pages);
     let begun = begin_leaf(at, turn.leaf, node.page, Room::of(list, store))?;
     let changes = &lent.changes[at.change..turn.to];
     let taken = take_changes(begun, list, store, node, changes, &lent.values[at.value..])?;

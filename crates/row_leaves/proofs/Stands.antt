@@ -255,10 +255,10 @@ a_row_is_written area₀ tickets₀ t c at list store area tickets w e = record 
 
 module _ (list₀ : List Entry) (store₀ : List ℕ) (lent : LentRow) (area₀ tickets₀ : List ℕ) (h : RowAsked list₀ store₀ lent area₀ tickets₀) where
   abbrev pages : List ℕ
-  pages = lent.pages.now
+  pages = lent.row.pages.now
 
   abbrev separators : List (List ℕ)
-  separators = lent.separators.now
+  separators = lent.row.separators.now
 
   abbrev changes : List (List ℕ)
   changes = lent.changes.now

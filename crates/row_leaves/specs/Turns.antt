@@ -28,25 +28,26 @@ to_by at i separators changes = changes_end changes at.change (leaf_at separator
 abbrev pub turn_by : RowAt → List (List ℕ) → List (List ℕ) → ℕ → Turn
 turn_by at separators changes i = record { at = at; leaf = leaf_at separators i; to = to_by at i separators changes }
 
-pub record TurnThere (t : Turn) (list : List Entry) (store : List ℕ) (lent : LentRow) (area tickets : List ℕ) : Type 0 where
-  pub loads : is_loaded t.at t.to ≡ true → LoadAsked t list store lent area tickets
-  pub copies : is_loaded t.at t.to ≡ false → CopyThere t.at t.leaf lent.pages.now area tickets
+module _ (t : Turn) (list : List Entry) (store : List ℕ) (lent : LentRow) (area tickets : List ℕ) where
+  pub record TurnThere : Type 0 where
+    pub loads : is_loaded t.at t.to ≡ true → LoadAsked t list store lent area tickets
+    pub copies : is_loaded t.at t.to ≡ false → CopyThere t.at t.leaf lent.row.pages.now area tickets
 
--- a copy is never refused, and leaves list and store as they were
-pub record CopiedOnly (t : Turn) (list : List Entry) (store : List ℕ) (lent : LentRow) (area tickets : List ℕ) (r : Result RowAt Refusal) (list' : List Entry) (store' area' tickets' : List ℕ) : Type 0 where
-  pub accepted : number_of r ≡ 0
-  pub copied : IfOk r (λ x. LeafCopied t.at t.leaf lent.pages.now area tickets x area' tickets')
-  pub list_is : list' ≡ list
-  pub store_is : store' ≡ store
+  -- a copy is never refused, and leaves list and store as they were
+  pub record CopiedOnly (r : Result RowAt Refusal) (list' : List Entry) (store' area' tickets' : List ℕ) : Type 0 where
+    pub accepted : number_of r ≡ 0
+    pub copied : IfOk r (λ x. LeafCopied t.at t.leaf lent.row.pages.now area tickets x area' tickets')
+    pub list_is : list' ≡ list
+    pub store_is : store' ≡ store
 
--- "Load only leaves whose range takes a change's key, or that a merge asks for. Others are copied over with their separators."
-pub record LeafTurned (t : Turn) (list : List Entry) (store : List ℕ) (lent : LentRow) (area tickets : List ℕ) (r : Result RowAt Refusal) (list' : List Entry) (store' area' tickets' : List ℕ) : Type 0 where
-  pub loaded : is_loaded t.at t.to ≡ true → LoadGiven t list store lent area tickets r list' store' area' tickets'
-  pub copied : is_loaded t.at t.to ≡ false → CopiedOnly t list store lent area tickets r list' store' area' tickets'
-  pub list_long : length list' ≡ length list
-  pub store_long : length store' ≡ length store
-  pub area_long : length area' ≡ length area
-  pub tickets_long : length tickets' ≡ length tickets
+  -- "Load only leaves whose range takes a change's key, or that a merge asks for. Others are copied over with their separators."
+  pub record LeafTurned (r : Result RowAt Refusal) (list' : List Entry) (store' area' tickets' : List ℕ) : Type 0 where
+    pub loaded : is_loaded t.at t.to ≡ true → LoadGiven t list store lent area tickets r list' store' area' tickets'
+    pub copied : is_loaded t.at t.to ≡ false → CopiedOnly r list' store' area' tickets'
+    pub list_long : length list' ≡ length list
+    pub store_long : length store' ≡ length store
+    pub area_long : length area' ≡ length area
+    pub tickets_long : length tickets' ≡ length tickets
 
 -- ---- leaf after leaf
 
@@ -75,13 +76,16 @@ pub record TurnedTo (area tickets : List ℕ) (t : Turned) (r : Result RowAt Ref
   pub written : IfOk r (λ x. RowWritten (is_from_zero t.row) area tickets x list' store' area' tickets')
 
 module _ (list : List Entry) (store pages : List ℕ) (separators changes : List (List ℕ)) (values area tickets : List ℕ) where
+  -- what the turns of all leaves come to
+  abbrev pub turned : Turned
+  turned = turns 4096 (length list) (length store) (nothing_yet 4096 (length list) (length store)) (row_of 4096 pages separators) (edits_of changes values)
+
   abbrev pub RowTurned : Result RowAt Refusal → List Entry → List ℕ → List ℕ → List ℕ → Type 0
-  RowTurned r list' store' area' tickets' =
-      TurnedTo area tickets (turns 4096 (length list) (length store) (nothing_yet 4096 (length list) (length store)) (row_of 4096 pages separators) (edits_of changes values)) r list' store' area' tickets'
+  RowTurned r list' store' area' tickets' = TurnedTo area tickets turned r list' store' area' tickets'
 
 -- the same by what a row call only reads
 abbrev pub RowAsked : List Entry → List ℕ → LentRow → List ℕ → List ℕ → Type 0
-RowAsked list store lent area tickets = RowThere list store lent.pages.now lent.separators.now lent.changes.now lent.values.now area tickets
+RowAsked list store lent area tickets = RowThere list store lent.row.pages.now lent.row.separators.now lent.changes.now lent.values.now area tickets
 
 abbrev pub RowGiven : List Entry → List ℕ → LentRow → List ℕ → List ℕ → Result RowAt Refusal → List Entry → List ℕ → List ℕ → List ℕ → Type 0
-RowGiven list store lent area tickets = RowTurned list store lent.pages.now lent.separators.now lent.changes.now lent.values.now area tickets
+RowGiven list store lent area tickets = RowTurned list store lent.row.pages.now lent.row.separators.now lent.changes.now lent.values.now area tickets

@@ -13,10 +13,10 @@ use row_leaf::{LentRow, RowAt, Turn, changes_end, copy_leaf, is_loaded, leaf_at,
 
 // The turn of leaf i, where the turns before it have come so far.
 fn turn_at(at: RowAt, lent: LentRow, i: usize) -> Turn
-    requires { (length lent.separators.now ≤ 16) × (at.change ≤ length lent.changes.now) }
-    ensures { result ≡ turn_by at lent.entry.separators.now lent.entry.changes.now i }
+    requires { (length lent.row.separators.now ≤ 16) × (at.change ≤ length lent.changes.now) }
+    ensures { result ≡ turn_by at lent.entry.row.separators.now lent.entry.changes.now i }
 {
-    let leaf = leaf_at(lent.separators, i);
+    let leaf = leaf_at(lent.row.separators, i);
     Turn {
         at,
         leaf,
@@ -39,7 +39,7 @@ fn turn(
     if is_loaded(t.at, t.to) {
         return load_leaf(t, list, store, lent, area, tickets);
     }
-    Ok(copy_leaf(t.at, t.leaf, lent.pages, area, tickets))
+    Ok(copy_leaf(t.at, t.leaf, lent.row.pages, area, tickets))
 }
 
 // ---- leaf after leaf
@@ -69,7 +69,7 @@ pub fn all_turns(
     ensures { RowGiven list.old store.old lent.entry area.old tickets.old result list.new store.new area.new tickets.new }
 {
     let mut at = begin_row();
-    for i in 0..lent.separators.len() {
+    for i in 0..lent.row.separators.len() {
         at = turn(turn_at(at, lent, i), list, store, lent, area, tickets)?;
     }
     Ok(at)

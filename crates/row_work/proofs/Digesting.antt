@@ -5,7 +5,6 @@ use mathlib.Core.Option.{some}
 use mathlib.Core.List.{List, [], ◌∷◌, ◌++◌, append-nil}
 use Prim.Native.Nat.{ℕ, ◌-◌}
 use native.Mathlib.Omega.{arith}
-use lib.Dec.{eqb}
 use lib.ListN.{length, replicate, length-replicate}
 use borrow.Author.Tests.{eq-eqb}
 use Rattle.bit_ops.specs.Steps.{zeros}
@@ -18,17 +17,17 @@ use Rattle.leaf_model.specs.Work.{plan, separator_after}
 use Rattle.leaf_model.proofs.Tests.{clash}
 use Rattle.leaf_work.specs.declared.Work.{Work}
 use Rattle.leaf_work.specs.declared.Entry.{Entry}
-use Rattle.leaf_work.specs.Lent.{blank, is_open, is_waiting, cutoff_of, override_of, separator_of, reads_base, regarded}
+use Rattle.leaf_work.specs.Lent.{blank, is_waiting, cutoff_of, override_of, separator_of, reads_base, regarded}
 use Rattle.leaf_work.specs.Pending.{pending_of}
 use Rattle.leaf_work.specs.Verdict.{has_pages, digest_verdict}
-use Rattle.leaf_work.specs.Digest.{Digested, inserts_of, digest_done, digest_on, digest_of}
+use Rattle.leaf_work.specs.Digest.{Digested, inserts_of, digest_done, digest_of}
 use Rattle.leaf_work.proofs.Operations.{puts, puts_records}
 use Rattle.leaf_work.proofs.Laid.{an_ignored_page_has_no_records, pending_is}
 use Rattle.leaf_claim.specs.Sequence.{State, digest, lent, next}
 use Rattle.leaf_claim.proofs.Reached.{Reached, lent_is}
 use Rattle.leaf_claim.proofs.Digesting.{laid_after_digest, no_base_is_read_after_a_digest}
 use Rattle.leaf_claim.proofs.DigestStep.{accepted_digest_is, digest_reaches_a_state}
-use Rattle.row_work.specs.Loaded.{Holding, Loaded, Waits, Rests}
+use Rattle.row_work.specs.Loaded.{Holding, Loaded, Waits}
 use Rattle.row_work.proofs.Holds.{state, the_work_is_reached, a_reached_work_holds_any}
 
 module _ (size : ℕ) (q : PageSize size) (w : Work) (list : List Entry) (store page area tickets : List ℕ) (h : Loaded size w list store page [])
@@ -104,5 +103,7 @@ module _ (size : ℕ) (q : PageSize size) (w : Work) (list : List Entry) (store 
       let b : done.store ≡ zeros (length store) = ap (λ (left : List Record). values left ++ zeros (length store - total left)) e ∙ ap zeros m in
       (l ∙ ap (λ (n : ℕ). replicate n blank) (sym (ap length l ∙ length-replicate (length list) blank)), b ∙ ap zeros (sym (ap length b ∙ length-replicate {A = ℕ} (length store) 0)))
 
-  pub a_digest_rests : Rests size done.work done.list done.store p.left (separator_after (separator_of w) p.leaves p.left) (cutoff_of w)
-  a_digest_rests = record { waits = waits; clear = clear }
+  -- what it leaves waits for a merge; where it leaves nothing, list and store are zeros
+  pub a_digest_rests : (nonempty p.left ≡ true → Waits size done.work done.list done.store p.left (separator_after (separator_of w) p.leaves p.left) (cutoff_of w))
+      × (p.left ≡ [] → (done.list ≡ replicate (length done.list) blank) × (done.store ≡ zeros (length done.store)))
+  a_digest_rests = (waits, clear)

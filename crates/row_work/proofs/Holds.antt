@@ -1,7 +1,7 @@
 -- What a sequence of the claim reaches is what the turns of a row go over, and the other way. Assumes nothing.
 use mathlib.Core.Path.{◌≡◌, refl, subst}
 use mathlib.Core.Bool.{Bool, true, false, cond}
-use mathlib.Core.List.{List, [], ◌∷◌, ◌++◌}
+use mathlib.Core.List.{List, [], ◌∷◌}
 use Prim.Native.Nat.{◌+◌, ℕ, zero, suc}
 use lib.ListN.{length, replicate}
 use Rattle.leaf_node.specs.Limits.{PageSize}
@@ -18,7 +18,6 @@ use Rattle.leaf_work.proofs.PendingRecords.{EntryKeyed}
 use Rattle.leaf_work.proofs.Canonical.{sound_work_is_canonical}
 use Rattle.leaf_claim.specs.Told.{reads_page}
 use Rattle.leaf_claim.specs.Sequence.{State, lent}
-use Rattle.leaf_claim.proofs.Agreeing.{told_of}
 use Rattle.leaf_claim.proofs.Reached.{Reached, reached_state_earns_no_refusal, pending_keys_have_32_bytes}
 use Rattle.leaf_claim.proofs.Claimed.{lent_state}
 use Rattle.row_work.specs.Loaded.{KeysLong, Holding}

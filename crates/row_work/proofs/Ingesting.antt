@@ -2,7 +2,7 @@
 use mathlib.Core.Path.{◌≡◌, refl, sym, ap, subst, ◌∙◌}
 use mathlib.Core.Bool.{Bool, true, false, not, cond}
 use mathlib.Core.Option.{Option, none, some}
-use mathlib.Core.List.{List, [], ◌∷◌, ◌++◌}
+use mathlib.Core.List.{List, ◌∷◌}
 use Prim.Native.Nat.{ℕ, ◌≤◌}
 use lib.Dec.{eqb}
 use lib.ListN.{length}
@@ -11,7 +11,7 @@ use Rattle.bit_ops.specs.Key.{lt_key}
 use Rattle.leaf_node.specs.Limits.{PageSize, value_limit}
 use Rattle.leaf_node.specs.Record.{Record}
 use Rattle.leaf_node.specs.Fits.{All, nil, cons}
-use Rattle.leaf_model.specs.Work.{Change, below_cutoff, change_fits, above_last}
+use Rattle.leaf_model.specs.Work.{Change, change_fits, above_last}
 use Rattle.leaf_model.specs.Tally.{changed}
 use Rattle.leaf_model.specs.Claim.{Lt}
 use Rattle.leaf_model.proofs.Tests.{and_left}
@@ -26,13 +26,13 @@ use Rattle.leaf_work.specs.Verdict.{ingest_verdict}
 use Rattle.leaf_work.specs.Outcome.{ingest_number, Ingested, IngestRefused, ingest_done, ingest_on, ingest_of}
 use Rattle.leaf_work.proofs.Tests.{and_both}
 use Rattle.leaf_work.proofs.Laid.{pending_parts}
-use Rattle.leaf_claim.specs.Sequence.{State, ingest, lent, answered, next}
+use Rattle.leaf_claim.specs.Sequence.{State, ingest, lent, next}
 use Rattle.leaf_claim.specs.Claim.{table_says}
 use Rattle.leaf_claim.proofs.Agreeing.{told_of, open_as_told}
 use Rattle.leaf_claim.proofs.Reached.{Reached}
 use Rattle.leaf_claim.proofs.IngestStep.{ingest_of_a_reached_state, ingest_reaches_a_state, ingest_keeps_the_lengths}
 use Rattle.leaf_claim.proofs.Refusals.{calls_are_refused_as_the_table_says}
-use Rattle.row_turns.specs.Changes.{Edit, RisingEdits, edits∷, EditsRight}
+use Rattle.row_turns.specs.Changes.{Edit, RisingEdits, edits∷}
 use Rattle.row_turns.specs.Turns.{room_verdict}
 use Rattle.row_work.specs.Loaded.{Holding, Loaded, Stays}
 use Rattle.row_work.proofs.Holds.{state, the_work_is_reached, a_reached_work_holds}

@@ -1,6 +1,6 @@
 -- A leaf that is loaded where records wait for a merge: it is their next base, its separator the cutoff that they wait for. Room alone can refuse it. Assumes nothing.
 use mathlib.Core.Path.{◌≡◌, refl, sym, ap, subst, ◌∙◌}
-use mathlib.Core.Bool.{Bool, true, false, not, cond}
+use mathlib.Core.Bool.{Bool, true, false, not}
 use mathlib.Core.Option.{Option, some}
 use mathlib.Core.List.{List, [], ◌++◌}
 use Prim.Native.Nat.{ℕ}
@@ -20,11 +20,11 @@ use Rattle.leaf_model.proofs.Keys.{test_of_le, test_of_lt, lt_of_test}
 use Rattle.leaf_work.specs.declared.Work.{Work}
 use Rattle.leaf_work.specs.declared.Entry.{Entry}
 use Rattle.leaf_work.specs.Tests.{is_set, key_if}
-use Rattle.leaf_work.specs.Lent.{is_open, cutoff_of, separator_of, regarded}
+use Rattle.leaf_work.specs.Lent.{is_open, regarded}
 use Rattle.leaf_work.specs.Pending.{pending_of}
 use Rattle.leaf_work.specs.Sound.{lets_in, sound}
 use Rattle.leaf_work.specs.Verdict.{base_verdict, follows_verdict, next_base_verdict}
-use Rattle.leaf_work.specs.Outcome.{Accepted, reply_number, Changed, next_base_work, next_base_of}
+use Rattle.leaf_work.specs.Outcome.{Accepted, Changed, next_base_work, next_base_of}
 use Rattle.leaf_work.proofs.Tests.{and_both, kept_key, key_is_there}
 use Rattle.leaf_work.proofs.Laid.{waiting_is_not_open, ignored, pending_parts}
 use Rattle.leaf_work.proofs.Canonical.{canonical_work_is_sound}

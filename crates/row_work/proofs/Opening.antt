@@ -3,8 +3,7 @@ use mathlib.Core.Path.{◌≡◌, refl, sym, ap, subst, ◌∙◌}
 use mathlib.Core.Bool.{Bool, true, false}
 use mathlib.Core.List.{List, []}
 use Prim.Native.Nat.{ℕ}
-use lib.ListN.{length, replicate, length-replicate}
-use Rattle.bit_ops.specs.Key.{lt_key}
+use lib.ListN.{length, replicate}
 use Rattle.bit_ops.specs.Steps.{zeros}
 use Rattle.leaf_node.specs.Limits.{PageSize}
 use Rattle.leaf_node.specs.Record.{Record}
@@ -24,7 +23,7 @@ use Rattle.leaf_work.specs.Verdict.{base_verdict, Opening, with_base_lem, with_n
 use Rattle.leaf_work.specs.Outcome.{fresh_work, open_work}
 use Rattle.leaf_work.proofs.Tests.{kept_key}
 use Rattle.leaf_work.proofs.Laid.{pending_parts}
-use Rattle.leaf_claim.specs.Sequence.{State, opened_tally, opened_page}
+use Rattle.leaf_claim.specs.Sequence.{opened_tally, opened_page}
 use Rattle.leaf_claim.specs.Claim.{FormedOpening}
 use Rattle.leaf_claim.proofs.Reached.{Reached}
 use Rattle.leaf_claim.proofs.OpeningStep.{opened_state, accepted_opening_is, accepted_opening_reaches_a_state}

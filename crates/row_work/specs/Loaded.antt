@@ -1,15 +1,13 @@
 -- Document 02, M-101: the work that a row's turns go over. It is opened inside the call, so that what is lent to its steps is never checked again: what each step requires holds of what
 -- the step before it left. `page` is the page of the leaf that is loaded, none where a row has no leaf.
-use Rattle.std.specs.Prelude.{◌≡◌, true, List, [], ℕ, length, replicate}
+use Rattle.std.specs.Prelude.{◌≡◌, true, List, [], ℕ, length}
 use Rattle.std.proofs.Math.Option.{Option, some}
-use Rattle.bit_ops.specs.Steps.{zeros}
 use Rattle.leaf_node.specs.Record.{Record}
 use Rattle.leaf_node.specs.Fits.{All}
-use Rattle.leaf_model.specs.Basics.{nonempty}
 use Rattle.leaf_model.specs.Work.{below_cutoff}
 use Rattle.leaf_work.specs.declared.Work.{Work}
 use Rattle.leaf_work.specs.declared.Entry.{Entry}
-use Rattle.leaf_work.specs.Lent.{blank, is_open, is_waiting, cutoff_of, override_of, separator_of, regarded}
+use Rattle.leaf_work.specs.Lent.{is_open, is_waiting, cutoff_of, override_of, separator_of, regarded}
 use Rattle.leaf_work.specs.Pending.{pending_of}
 use Rattle.leaf_work.specs.Sound.{lets_in}
 use Rattle.leaf_work.specs.Verdict.{lent_verdict}
@@ -53,8 +51,3 @@ pub record Waits (size : ℕ) (w : Work) (list : List Entry) (store : List ℕ) 
   pub override : override_of w ≡ some s
   pub cutoff : cutoff_of w ≡ c
   pub pending_is : pending_of w list store [] ≡ kept
-
--- or nothing does: list and store are zeros
-pub record Rests (size : ℕ) (w : Work) (list : List Entry) (store : List ℕ) (kept : List Record) (s : List ℕ) (c : Option (List ℕ)) : Type 0 where
-  pub waits : nonempty kept ≡ true → Waits size w list store kept s c
-  pub clear : kept ≡ [] → (list ≡ replicate (length list) blank) × (store ≡ zeros (length store))
