@@ -68,7 +68,8 @@ fn names(key: &[u8; 32], tree: &[u8; 24]) -> bool
     key.starts_with(tree)
 }
 
-// Record i of a page, laid on the scale if it is a weight of the tree.
+// Record i of a page, laid on the scale if it is a weight of the tree. This and the next function take a page and no `LeafNode`, since
+// they ask no more of it than that its records are laid.
 fn weigh_record(page: &[u8], i: usize, tree: &[u8; 24], at: Scale) -> Scale
     requires { (Laid page.now (count page.now)) × (i < count page.now) × (Light record_room at) }
     ensures { (result ≡ weighed_record tree.now at (record_at page.now i)) × (Heavier 1 at result) }

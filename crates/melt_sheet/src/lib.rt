@@ -12,7 +12,7 @@ use leaf_node::Size;
 use melt_scale::{Scale, empty, weigh_page};
 use melt_weight::{LeafMelt, MOST_WAX, melt};
 use refusal::Refusal;
-use row_check::lent_row_verdict;
+use row_check::{Row, lent_row_verdict};
 
 // All pages of a row, s being the scale after the first i.
 fn weigh_row(pages: &[u8], separators: &[[u8; 32]], tree: &[u8; 24], size: Size) -> Scale
@@ -47,7 +47,7 @@ fn scale_verdict(s: Scale) -> Result<(), Refusal>
     Ok(())
 }
 
-// The reply of a refused call: its number alone.
+// The reply of a refused call: its number alone. A function and no `From`: `LeafMelt` is melt_weight's, where `melt` makes that of a sheet.
 fn refused(number: u8) -> LeafMelt
     ensures { result ≡ refused_melt number }
 {
@@ -70,7 +70,7 @@ fn melted(
     ensures number { number_of result ≡ melt_verdict size.bytes pages.now separators.now tree.now }
     ensures sheet { IfOk result (λ sheet. sheet ≡ melt_of size.bytes pages.now separators.now tree.now) }
 {
-    lent_row_verdict(pages, separators, size)?;
+    lent_row_verdict(Row { pages, separators }, size)?;
     let s = weigh_row(pages, separators, tree, size);
     scale_verdict(s)?;
     Ok(melt(s.total, s.factor))

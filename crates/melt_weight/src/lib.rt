@@ -12,7 +12,8 @@ use bit_ops::bytes_from;
 // The most milligrams of a weight of 64 bits, and of a tree.
 pub const MOST_WAX: u64 = 1099511627776;
 
-// A weight record's value, read: a piece or a sprue in milligrams, or a factor.
+// A weight record's value, read: a piece or a sprue in milligrams, or a factor; three cases that the papers name, and so no `Option` or
+// `Result`.
 #[derive(Clone, Copy, Debug)]
 pub enum Weight {
     Piece(u64),

@@ -5,13 +5,17 @@ use Prim.Native.Nat.{ℕ, ◌+◌, ◌-◌, ◌*◌, ◌/◌, ◌≤◌, ◌<◌
 use native.Mathlib.Omega.{arith}
 use lib.Dec.{leb, ltb}
 use borrow.Author.Tests.{eqb-false, ltb-true, lt-ltb, leb-true, leb-false, le-leb, lt-leb, not-true, not-false}
+use Rattle.std.specs.Prelude.{Result, Ok, Err, IfOk}
 use Rattle.leaf_node.proofs.Rules.{both}
 use Rattle.refusal.specs.declared.Refusal.{Refusal}
-use Rattle.refusal.specs.Numbers.{number}
+use Rattle.refusal.specs.Numbers.{number, number_of}
 use Rattle.refusal.proofs.Numbers.{not_accepted}
 use Rattle.overflow.specs.Count.{most_numbers, body_bytes, cell_numbers, most_value, size_right, Holds, page_count}
 use Rattle.overflow.specs.Verdict.{count_verdict}
 use Rattle.overflow.specs.Outcome.{count_of}
+use Rattle.overflow.specs.Reply.{pages_out}
+use Rattle.overflow.specs.declared.PageCount.{PageCount}
+use Rattle.overflow.specs.declared.LeafPageCount.{LeafPageCount}
 
 -- ---- "The page count is the smallest t for which t times 4,092 holds the value and 4 bytes for each page beyond the fifteenth."
 
@@ -104,13 +108,11 @@ module _ (n : ℕ) where
       go true e = absurd (eqb-false (number r) 0 (not_accepted r) (h ∙ rw e))
       go false e = e
 
-  pub a_counted_size : 0 ≡ count_verdict n → (t : ℕ) → t ≡ page_count n → record { refusal = 0; pages = t } ≡ count_of n
+  pub the_reply_of_a_count : (reply : Result PageCount Refusal) → number_of reply ≡ count_verdict n → IfOk reply (λ t. (t.0 ≡ page_count n) × (t.0 ≤ 257)) → (out : LeafPageCount)
+      → out ≡ pages_out reply → out ≡ count_of n
   unfolding count_of
-  a_counted_size h t q = rw (← h, q)
-
-  pub a_refused_size : (r : Refusal) → number r ≡ count_verdict n → (m : ℕ) → m ≡ number r → record { refusal = m; pages = 0 } ≡ count_of n
-  unfolding count_of
-  a_refused_size r h m q = rw (← h, not_accepted r, q)
+  the_reply_of_a_count (Ok t) h q out e = e ∙ rw (← h, q.0)
+  the_reply_of_a_count (Err r) h q out e = e ∙ rw (← h, not_accepted r)
 
   module _ (b : Bool) (e : b ≡ size_right n) where
     pub a_wrong_size : not b ≡ true → 21 ≡ count_verdict n

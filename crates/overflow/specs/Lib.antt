@@ -4,4 +4,5 @@ pub mod Written
 pub mod Read
 pub mod Verdict
 pub mod Outcome
+pub mod Reply
 pub mod Steps

@@ -13,6 +13,7 @@ ghost use Rattle.overflow.specs.Written.{low_bytes, numbers_out, cell_of};
 ghost use Rattle.overflow.specs.Read.{low_number, cell_size, numbers_here, bytes_here};
 ghost use Rattle.overflow.specs.Verdict.{count_verdict};
 ghost use Rattle.overflow.specs.Outcome.{count_of, padded};
+ghost use Rattle.overflow.specs.Reply.{pages_out, split_out, joined_out, freed_out};
 ghost use Rattle.overflow.specs.Steps.{CellRead};
 
 use bit_ops::bytes_from;
@@ -40,6 +41,14 @@ pub struct Decoded {
     pub pages: PageCount,
 }
 
+// What a splitting answers: the cell in the front of 100 bytes, its length, and how many pages were written.
+#[derive(Clone, Copy, Debug, PartialEq, Eq)]
+pub struct Encoded {
+    pub cell: [u8; 100],
+    pub cell_len: usize,
+    pub pages: PageCount,
+}
+
 // The most bytes of a value, and the most numbers of a cell and of a page.
 const MAX_OVERFLOW_VALUE_SIZE: usize = 1048576;
 
@@ -56,6 +65,23 @@ pub struct LeafPageCount {
     pub pages: usize,
 }
 
+impl From<Result<PageCount, Refusal>> for LeafPageCount {
+    ghost from_gives = { λ reply out. out ≡ pages_out reply };
+
+    fn from(reply: Result<PageCount, Refusal>) -> LeafPageCount {
+        match reply {
+            Ok(pages) => LeafPageCount {
+                refusal: 0,
+                pages: pages.0,
+            },
+            Err(refusal) => LeafPageCount {
+                refusal: u8::from(refusal),
+                pages: 0,
+            },
+        }
+    }
+}
+
 #[repr(C)]
 #[derive(Clone, Copy, Debug, PartialEq, Eq)]
 pub struct LeafSplit {
@@ -65,6 +91,30 @@ pub struct LeafSplit {
     pub pages: usize,
 }
 
+impl From<Result<Encoded, Refusal>> for LeafSplit {
+    ghost from_gives = { λ reply out. out ≡ split_out reply };
+
+    fn from(reply: Result<Encoded, Refusal>) -> LeafSplit {
+        match reply {
+            Ok(encoded) => {
+                let cell = encoded.cell;
+                LeafSplit {
+                    refusal: 0,
+                    cell,
+                    cell_len: encoded.cell_len,
+                    pages: encoded.pages.0,
+                }
+            }
+            Err(refusal) => LeafSplit {
+                refusal: u8::from(refusal),
+                cell: [0; 100],
+                cell_len: 0,
+                pages: 0,
+            },
+        }
+    }
+}
+
 #[repr(C)]
 #[derive(Clone, Copy, Debug, PartialEq, Eq)]
 pub struct LeafJoined {
@@ -72,11 +122,42 @@ pub struct LeafJoined {
     pub len: usize,
 }
 
+impl From<Result<usize, Refusal>> for LeafJoined {
+    ghost from_gives = { λ reply out. out ≡ joined_out reply };
+
+    fn from(reply: Result<usize, Refusal>) -> LeafJoined {
+        match reply {
+            Ok(len) => LeafJoined { refusal: 0, len },
+            Err(refusal) => LeafJoined {
+                refusal: u8::from(refusal),
+                len: 0,
+            },
+        }
+    }
+}
+
 #[repr(C)]
 #[derive(Clone, Copy, Debug, PartialEq, Eq)]
 pub struct LeafFreed {
     pub refusal: u8,
     pub numbers: usize,
+}
+
+impl From<Result<usize, Refusal>> for LeafFreed {
+    ghost from_gives = { λ reply out. out ≡ freed_out reply };
+
+    fn from(reply: Result<usize, Refusal>) -> LeafFreed {
+        match reply {
+            Ok(numbers) => LeafFreed {
+                refusal: 0,
+                numbers,
+            },
+            Err(refusal) => LeafFreed {
+                refusal: u8::from(refusal),
+                numbers: 0,
+            },
+        }
+    }
 }
 
 // ---- the page count
@@ -122,16 +203,7 @@ pub fn page_count(len: usize) -> Result<PageCount, Refusal>
 pub fn pages(len: usize) -> LeafPageCount
     ensures { result ≡ count_of len }
 {
-    match page_count(len) {
-        Ok(pages) => LeafPageCount {
-            refusal: 0,
-            pages: pages.0,
-        },
-        Err(refusal) => LeafPageCount {
-            refusal: u8::from(refusal),
-            pages: 0,
-        },
-    }
+    LeafPageCount::from(page_count(len))
 }
 
 // A page's counts, of the numbers and bytes that are left.

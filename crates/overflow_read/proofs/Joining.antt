@@ -9,14 +9,18 @@ use lib.Dec.{leb}
 use lib.ListN.{length, take, drop, set, length-set, length-take, length-drop}
 use lib.Seq.{drop-drop}
 use borrow.Author.Tests.{leb-true}
+use Rattle.std.specs.Prelude.{Result, Ok, Err, IfOk}
 use Rattle.refusal.specs.declared.Refusal.{Refusal}
-use Rattle.refusal.specs.Numbers.{number}
+use Rattle.refusal.specs.Numbers.{number, number_of}
 use Rattle.refusal.proofs.Numbers.{not_accepted}
 use Rattle.leaf_node.specs.Build.{put}
 use Rattle.leaf_builder.proofs.Putting.{put_none, put_put, length_put}
 use Rattle.overflow.specs.Read.{low_number, numbers_read, cell_size, cell_count, cell_numbers_read, pages_in, pages_right, page_bytes, joined_value, freed_numbers}
 use Rattle.overflow.specs.Verdict.{all_right, read_verdict, join_verdict, free_verdict}
 use Rattle.overflow.specs.Outcome.{join_of, free_of}
+use Rattle.overflow.specs.Reply.{joined_out, freed_out}
+use Rattle.overflow.specs.declared.LeafJoined.{LeafJoined}
+use Rattle.overflow.specs.declared.LeafFreed.{LeafFreed}
 use Rattle.overflow.specs.Steps.{RightCell, WrongCell}
 use Rattle.overflow.proofs.Counts.{Sized, a_value_has_a_page, all_numbers_stand_in_the_first_page}
 use Rattle.overflow.proofs.Numbers.{put_next}
@@ -215,19 +219,15 @@ module _ (c pages : List ℕ) (size t : ℕ) (g : RightCell c size t) where
 -- ---- the replies
 
 module _ (c pages value : List ℕ) where
-  pub a_join : (len : ℕ) → len ≡ cell_size c → 0 ≡ join_verdict c pages (length value) → record { refusal = 0; len = len } ≡ (join_of c pages value).reply
+  pub the_reply_of_a_join : (reply : Result ℕ Refusal) → number_of reply ≡ join_verdict c pages (length value) → IfOk reply (λ len. len ≡ cell_size c) → (out : LeafJoined)
+      → out ≡ joined_out reply → out ≡ (join_of c pages value).reply
   unfolding join_of
-  a_join len q e = rw (← e, q)
-
-  pub a_refused_join : (r : Refusal) (n : ℕ) → n ≡ number r → number r ≡ join_verdict c pages (length value) → record { refusal = n; len = 0 } ≡ (join_of c pages value).reply
-  unfolding join_of
-  a_refused_join r n q e = rw (← e, not_accepted r, q)
+  the_reply_of_a_join (Ok len) e q out h = h ∙ rw (← e, q)
+  the_reply_of_a_join (Err r) e q out h = h ∙ rw (← e, not_accepted r)
 
 module _ (c pages numbers : List ℕ) where
-  pub a_free : (t : ℕ) → t ≡ cell_count c → 0 ≡ free_verdict c pages (length numbers) → record { refusal = 0; numbers = t } ≡ (free_of c pages numbers).reply
+  pub the_reply_of_a_free : (reply : Result ℕ Refusal) → number_of reply ≡ free_verdict c pages (length numbers) → IfOk reply (λ count. count ≡ cell_count c) → (out : LeafFreed)
+      → out ≡ freed_out reply → out ≡ (free_of c pages numbers).reply
   unfolding free_of
-  a_free t q e = rw (← e, q)
-
-  pub a_refused_free : (r : Refusal) (n : ℕ) → n ≡ number r → number r ≡ free_verdict c pages (length numbers) → record { refusal = n; numbers = 0 } ≡ (free_of c pages numbers).reply
-  unfolding free_of
-  a_refused_free r n q e = rw (← e, not_accepted r, q)
+  the_reply_of_a_free (Ok t) e q out h = h ∙ rw (← e, q)
+  the_reply_of_a_free (Err r) e q out h = h ∙ rw (← e, not_accepted r)

@@ -123,13 +123,7 @@ pub fn join(cell: &[u8], pages: &[u8], value: &mut [u8]) -> LeafJoined
     ensures value { result ≡ (join_of cell.now pages.now value.old).reply }
     ensures value_after { value.new ≡ (join_of cell.now pages.now value.old).value }
 {
-    match join_value(cell, pages, value) {
-        Ok(len) => LeafJoined { refusal: 0, len },
-        Err(refusal) => LeafJoined {
-            refusal: u8::from(refusal),
-            len: 0,
-        },
-    }
+    LeafJoined::from(join_value(cell, pages, value))
 }
 
 // ---- freeing
@@ -172,14 +166,5 @@ pub fn free(cell: &[u8], pages: &[u8], numbers: &mut [u32]) -> LeafFreed
     ensures value { result ≡ (free_of cell.now pages.now numbers.old).reply }
     ensures numbers_after { numbers.new ≡ (free_of cell.now pages.now numbers.old).numbers }
 {
-    match free_numbers(cell, pages, numbers) {
-        Ok(count) => LeafFreed {
-            refusal: 0,
-            numbers: count,
-        },
-        Err(refusal) => LeafFreed {
-            refusal: u8::from(refusal),
-            numbers: 0,
-        },
-    }
+    LeafFreed::from(free_numbers(cell, pages, numbers))
 }

@@ -9,6 +9,7 @@ use lib.ListN.{length, take, drop, length-append, length-take, length-drop, drop
 use lib.Seq.{take_all, take-take, drop-drop}
 use borrow.Author.Tests.{leb-true, leb-false}
 use lib.Dec.{leb}
+use Rattle.std.specs.Prelude.{Err}
 use Rattle.std.specs.Int.{w16, to_le_bytes}
 use Rattle.refusal.specs.declared.Refusal.{Refusal}
 use Rattle.refusal.specs.Numbers.{number}
@@ -17,16 +18,15 @@ use Rattle.bit_ops.specs.Steps.{zeros}
 use Rattle.leaf_node.specs.Build.{put}
 use Rattle.leaf_builder.proofs.Putting.{take_drop, put_none, put_put, length_put}
 use Rattle.leaf_model.specs.Basics.{joined}
-use Rattle.overflow.specs.declared.LeafSplit.{LeafSplit}
 use Rattle.overflow.specs.Count.{page_count}
 use Rattle.overflow.specs.Written.{low_bytes, numbers_out, cell_of, page_of, pages_of, split_pages}
 use Rattle.overflow.specs.Verdict.{split_verdict}
 use Rattle.overflow.specs.Outcome.{padded, split_of}
+use Rattle.overflow.specs.Reply.{split_out}
 use Rattle.overflow.proofs.Numbers.{length_low, a_number_is_written, numbers_long}
 use Rattle.overflow.proofs.Cells.{length_cell}
 use Rattle.overflow.proofs.Verdicts.{Lent, accepted_splittings}
 use Rattle.overflow.proofs.Chunks.{length_page, a_page_by_its_counts, no_page}
-use Rattle.overflow_split.specs.Steps.{refused_split}
 
 -- ---- one page
 
@@ -146,9 +146,9 @@ firsts_are_a_part t f ns e = go (leb 15 t) refl
 
 module _ (value hash numbers area : List ℕ) where
   module _ (r : Refusal) (e : number r ≡ split_verdict (length value) (length numbers) (length area)) where
-    pub a_refused_reply : (y : LeafSplit) → y ≡ refused_split (number r) → y ≡ (split_of value hash numbers area).reply
+    pub a_refused_reply : split_out (Err r) ≡ (split_of value hash numbers area).reply
     unfolding split_of
-    a_refused_reply y q = q ∙ rw (← e, not_accepted r)
+    a_refused_reply = rw (← e, not_accepted r)
 
     pub a_refused_area : area ≡ (split_of value hash numbers area).area
     unfolding split_of

@@ -3,18 +3,20 @@
 #![tactic(auto)]
 
 ghost use Rattle.std.specs.Prelude.{◌≡◌, ◌++◌, ◌+◌, ◌*◌, ◌≤◌, ◌<◌, length, IfOk};
-ghost use Rattle.refusal.specs.Numbers.{number, number_of};
+ghost use Rattle.refusal.specs.Numbers.{number_of};
 ghost use Rattle.leaf_node.specs.Build.{put};
 ghost use Rattle.leaf_model.specs.Basics.{joined};
 ghost use Rattle.overflow.specs.Count.{page_count};
 ghost use Rattle.overflow.specs.Written.{low_bytes, page_of, pages_of};
 ghost use Rattle.overflow.specs.Verdict.{split_verdict};
 ghost use Rattle.overflow.specs.Outcome.{split_of};
-ghost use Rattle.overflow_split.specs.Steps.{refused_split};
+ghost use Rattle.overflow.specs.Reply.{split_out};
 
 use leaf_builder::clear_between;
 use leaf_node::copy_in;
-use overflow::{LeafSplit, PageCount, encode_cell, in_cell, page_count, put_numbers, shape_at};
+use overflow::{
+    Encoded, LeafSplit, PageCount, encode_cell, in_cell, page_count, put_numbers, shape_at,
+};
 use refusal::Refusal;
 
 // A page's head: how many numbers, how many bytes.
@@ -67,15 +69,25 @@ fn split_verdict(len: usize, numbers: usize, area: usize) -> Result<PageCount, R
     Err(Refusal::ShortBuffer)
 }
 
-fn refused_split(refusal: Refusal) -> LeafSplit
-    ensures { result ≡ refused_split (number refusal) }
+// Splits into the front of the area, where nothing refuses it. Answers the cell and the page count.
+fn split_value(
+    value: &[u8],
+    hash: &[u8; 32],
+    numbers: &[u32],
+    area: &mut [u8],
+) -> Result<Encoded, Refusal>
+    ensures value { split_out result ≡ (split_of value.now hash.now numbers.now area.old).reply }
+    ensures area_after { area.new ≡ (split_of value.now hash.now numbers.now area.old).area }
 {
-    LeafSplit {
-        refusal: u8::from(refusal),
-        cell: [0; 100],
-        cell_len: 0,
-        pages: 0,
-    }
+    let pages = split_verdict(value.len(), numbers.len(), area.len())?;
+    let first = in_cell(pages);
+    let cell = encode_cell(value.len(), hash, &numbers[..first]);
+    chunk(value, &numbers[first..pages.0], pages, area);
+    Ok(Encoded {
+        cell,
+        cell_len: 40 + 4 * first,
+        pages,
+    })
 }
 
 // The split call: cell and page count, and the pages in the front of the area.
@@ -83,17 +95,5 @@ pub fn split(value: &[u8], hash: &[u8; 32], numbers: &[u32], area: &mut [u8]) ->
     ensures value { result ≡ (split_of value.now hash.now numbers.now area.old).reply }
     ensures area_after { area.new ≡ (split_of value.now hash.now numbers.now area.old).area }
 {
-    let pages = match split_verdict(value.len(), numbers.len(), area.len()) {
-        Ok(pages) => pages,
-        Err(refusal) => return refused_split(refusal),
-    };
-    let first = in_cell(pages);
-    let cell = encode_cell(value.len(), hash, &numbers[..first]);
-    chunk(value, &numbers[first..pages.0], pages, area);
-    LeafSplit {
-        refusal: 0,
-        cell,
-        cell_len: 40 + 4 * first,
-        pages: pages.0,
-    }
+    LeafSplit::from(split_value(value, hash, numbers, area))
 }

@@ -1,13 +1,16 @@
--- Parts of a record, and bytes compared pair by pair. Assumes nothing.
-use mathlib.Core.Path.{◌≡◌, refl, ◌∙◌}
+-- Parts of a record. Assumes nothing.
+use mathlib.Core.Path.{◌≡◌, refl, sym, ◌∙◌}
 use mathlib.Core.Bool.{Bool, true, false, ◌&&◌}
 use mathlib.Core.List.{List, [], ◌∷◌}
 use Prim.Native.Nat.{ℕ, ◌+◌, ◌-◌, ◌≤◌, ◌<◌}
 use native.Mathlib.Omega.{arith}
-use lib.Dec.{eqb}
-use lib.ListN.{length, take, drop, replicate}
+use lib.Dec.{eqb, leb}
+use lib.ListN.{length, take, drop, replicate, length-take, length-drop}
 use lib.Pointwise.{pointwise}
-use borrow.Author.Tests.{le-leb, lt-leb}
+use borrow.Author.Tests.{eq-eqb, ne_eqb, eqb-true, eqb-false, le-leb, lt-leb, leb-false}
+use Rattle.std.specs.Prelude.{IsTrue}
+use Rattle.std.specs.List.{starts_with}
+use Rattle.std.proofs.lemmas.List.{take_all}
 use Rattle.leaf_work.specs.Tests.{same_bytes}
 use Rattle.replay.specs.Parts.{key_from, has_at, has_part}
 
@@ -34,28 +37,40 @@ pub stops_at_false : (a b c : Bool) → b ≡ c → (a && b) ≡ elim a [ true �
 stops_at_false true b c e = e
 stops_at_false false b c e = refl
 
-pub pairs_decide : (a b : List ℕ) → pointwise eqb a b ≡ same_bytes a b
-pairs_decide [] [] = refl
-pairs_decide [] (y ∷ ys) = refl
-pairs_decide (x ∷ xs) [] = refl
-pairs_decide (x ∷ xs) (y ∷ ys) = stops_at_false (eqb x y) (pointwise eqb xs ys) (same_bytes xs ys) (pairs_decide xs ys)
+turned : (x y : ℕ) → eqb y x ≡ eqb x y
+turned x y = go (eqb x y) refl
+  where
+    go : (b : Bool) → eqb x y ≡ b → eqb y x ≡ b
+    go true e = eq-eqb y x (sym (eqb-true x y e))
+    go false e = ne_eqb y x (λ q. eqb-false x y e (sym q))
+
+-- the library compares the needle's bytes with the others
+pub prefixes_are_compared : (xs ys : List ℕ) → pointwise eqb ys xs ≡ same_bytes xs ys
+prefixes_are_compared [] [] = refl
+prefixes_are_compared [] (y ∷ ys) = refl
+prefixes_are_compared (x ∷ xs) [] = refl
+prefixes_are_compared (x ∷ xs) (y ∷ ys) = rw (turned x y) (stops_at_false (eqb x y) (pointwise eqb ys xs) (same_bytes xs ys) (prefixes_are_compared xs ys))
 
 -- bytes at a place
 
 module _ (s : List ℕ) (at : ℕ) (bytes : List ℕ) where
-  pub the_record_is_shorter : length s < length bytes → false ≡ has_at s at bytes
+  pub the_record_ends_before : length s < at → false ≡ has_at s at bytes
   unfolding has_at
-  the_record_is_shorter h = rw (lt-leb (at + length bytes) (length s) (omega arith))
+  the_record_ends_before h = rw (lt-leb (at + length bytes) (length s) (omega arith))
 
-  pub the_record_ends_before : length bytes ≤ length s → length s - length bytes < at → false ≡ has_at s at bytes
+  pub the_bytes_decide : at ≤ length s → (r : Bool) → (IsTrue r → length bytes ≤ length (take (length s - at) (drop at s)))
+      → r ≡ starts_with eqb (take (length s - at) (drop at s)) bytes → r ≡ has_at s at bytes
   unfolding has_at
-  the_record_ends_before h k = rw (lt-leb (at + length bytes) (length s) (omega arith))
+  the_bytes_decide h r b e = go r (leb (at + length bytes) (length s)) refl b (e ∙ rw whole (prefixes_are_compared (take (length bytes) (drop at s)) bytes))
+    where
+      whole : take (length s - at) (drop at s) ≡ drop at s
+      whole = take_all (length s - at) (drop at s) (omega (arith, length-drop at s))
 
-  pub the_bytes_decide : length bytes ≤ length s → at ≤ length s - length bytes → (r : Bool) → r ≡ pointwise eqb (take (at + length bytes - at) (drop at s)) bytes → r ≡ has_at s at bytes
-  unfolding has_at
-  the_bytes_decide h k r e =
-      let n : at + length bytes - at ≡ length bytes = omega arith in
-      rw (le-leb (at + length bytes) (length s) (omega arith)) (e ∙ pairs_decide _ bytes ∙ rw n)
+      go : (r d : Bool) → leb (at + length bytes) (length s) ≡ d → (IsTrue r → length bytes ≤ length (take (length s - at) (drop at s)))
+          → r ≡ same_bytes (take (length bytes) (drop at s)) bytes → r ≡ (leb (at + length bytes) (length s) && same_bytes (take (length bytes) (drop at s)) bytes)
+      go r true q b e = rw q e
+      go false false q b e = rw q
+      go true false q b e = absurd (omega (arith, b refl, length-take (length s - at) (drop at s), length-drop at s, leb-false (at + length bytes) (length s) q))
 
 -- bytes of another buffer
 

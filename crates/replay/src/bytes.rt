@@ -8,7 +8,7 @@ ghost use Rattle.replay.specs.Parts.{key_from, has_at, has_part, is_held};
 pub(crate) fn byte(s: &[u8], at: usize) -> u8
     ensures { result ≡ get_or s.now at 0 }
 {
-    if at < s.len() { s[at] } else { 0 }
+    s.get(at).copied().unwrap_or(0)
 }
 
 // A number of two bytes, low byte first.
@@ -42,21 +42,10 @@ pub(crate) fn key(s: &[u8], at: usize) -> [u8; 32]
 pub(crate) fn same(s: &[u8], at: usize, bytes: &[u8]) -> bool
     ensures { result ≡ has_at s.now at bytes.now }
 {
-    let n = bytes.len();
-    if s.len() < n {
+    if s.len() < at {
         return false;
     }
-    if s.len() - n < at {
-        return false;
-    }
-    &s[at..at + n] == bytes
-}
-
-// The same for a key.
-pub(crate) fn same_key(s: &[u8], at: usize, key: &[u8; 32]) -> bool
-    ensures { result ≡ has_at s.now at key.now }
-{
-    same(s, at, key)
+    s[at..].starts_with(bytes)
 }
 
 // Whether the record has from `at` on the n bytes that another buffer has from `from` on; false where one of them ends before.

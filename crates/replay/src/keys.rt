@@ -1,5 +1,5 @@
 // `separate` and `prefix_len` against records of 99 bytes: a, b, the reply, the shared bits, the separator.
-use crate::bytes::{byte, key, number, same_key};
+use crate::bytes::{byte, key, number, same};
 use crate::reading::read_full;
 use crate::score::Score;
 use leaf_updater::{leaf_prefix_len, leaf_separate};
@@ -14,7 +14,7 @@ fn passes(v: &[u8; 99]) -> bool {
     let reply = leaf_separate(&a, &b, &mut out);
     let shared = leaf_prefix_len(&a, &b);
     let said = (reply == byte(v, 64)) & (shared == number(v, 65));
-    said & same_key(v, 67, &out)
+    said & same(v, 67, &out)
 }
 
 // The next record of the file.

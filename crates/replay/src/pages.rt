@@ -1,8 +1,6 @@
 // The page calls against records of 5,969 bytes: a page, its refusal, 24 questions of 78 bytes with their answers; and the
 // builder against records of 8,198 bytes: a page, a range in two parts, the page that is built of it.
-ghost use Rattle.std.specs.Prelude.{◌≤◌};
-
-use crate::bytes::{byte, key, number, same, same_key};
+use crate::bytes::{byte, key, number, same};
 use crate::reading::read_full;
 use crate::score::Score;
 use leaf_page::LeafValue;
@@ -13,55 +11,44 @@ use leaf_updater::{
 use std::io;
 use std::io::Read;
 
-const QUESTIONS: usize = 24;
-
 // Whether a value's reply is the recorded one.
-fn same_value(v: &[u8], q: usize, r: LeafValue) -> bool
-    requires { q ≤ 8000 }
-{
-    let said = (r.refusal == byte(v, q + 37)) & (r.absent == byte(v, q + 38));
-    let place = (r.offset == number(v, q + 40)) & (r.len == number(v, q + 42));
-    said & ((r.flag == byte(v, q + 39)) & (place & (r.position == number(v, q + 44))))
+fn same_value(v: &[u8], r: LeafValue) -> bool {
+    let said = (r.refusal == byte(v, 37)) & (r.absent == byte(v, 38));
+    let place = (r.offset == number(v, 40)) & (r.len == number(v, 42));
+    said & ((r.flag == byte(v, 39)) & (place & (r.position == number(v, 44))))
 }
 
-fn same_key_read(page: &[u8], v: &[u8], q: usize) -> bool
-    requires { q ≤ 8000 }
-{
-    let r = leaf_page_key(page, number(v, q + 1));
+fn same_key_read(page: &[u8], v: &[u8]) -> bool {
+    let r = leaf_page_key(page, number(v, 1));
     let key = r.key;
-    (r.refusal == byte(v, q + 37)) & same_key(v, q + 46, &key)
+    (r.refusal == byte(v, 37)) & same(v, 46, &key)
 }
 
-fn same_size(page: &[u8], v: &[u8], q: usize) -> bool
-    requires { q ≤ 8000 }
-{
-    let r = leaf_page_values_size(page, number(v, q + 1), number(v, q + 3));
-    (r.refusal == byte(v, q + 37)) & (r.bytes == number(v, q + 42))
+fn same_size(page: &[u8], v: &[u8]) -> bool {
+    let r = leaf_page_values_size(page, number(v, 1), number(v, 3));
+    (r.refusal == byte(v, 37)) & (r.bytes == number(v, 42))
 }
 
-fn same_sought(page: &[u8], v: &[u8], q: usize) -> bool
-    requires { q ≤ 8000 }
-{
-    let sought = key(v, q + 5);
-    same_value(v, q, leaf_page_get(page, &sought))
+fn same_sought(page: &[u8], v: &[u8]) -> bool {
+    let sought = key(v, 5);
+    same_value(v, leaf_page_get(page, &sought))
 }
 
-// Asks the question that stands at byte q.
-fn passes(page: &[u8], v: &[u8], q: usize) -> bool
-    requires { q ≤ 8000 }
-{
-    match byte(v, q) {
-        0 => same_key_read(page, v, q),
-        1 => same_value(v, q, leaf_page_value(page, number(v, q + 1))),
-        2 => same_size(page, v, q),
-        _ => same_sought(page, v, q),
+// Asks the question that these bytes are.
+fn passes(page: &[u8], v: &[u8]) -> bool {
+    match byte(v, 0) {
+        0 => same_key_read(page, v),
+        1 => same_value(v, leaf_page_value(page, number(v, 1))),
+        2 => same_size(page, v),
+        _ => same_sought(page, v),
     }
 }
 
-fn ask_all(page: &[u8], v: &[u8], t: Score) -> Score {
+fn ask_all(v: &[u8; 5969], t: Score) -> Score {
+    let page = &v[..4096];
     let mut out = t.count(leaf_page_check(page) == byte(v, 4096));
-    for i in 0..QUESTIONS {
-        out = out.count(passes(page, v, 4097 + 78 * i));
+    for question in v[4097..].chunks_exact(78) {
+        out = out.count(passes(page, question));
     }
     out
 }
@@ -73,8 +60,7 @@ pub(crate) fn next<R: Read>(file: &mut R, t: Score) -> io::Result<Score> {
     if n != 5969 {
         return Ok(t.end(n));
     }
-    let whole = &v[..];
-    Ok(ask_all(&whole[0..4096], whole, t))
+    Ok(ask_all(&v, t))
 }
 
 // Whether the page that is built of the record's range is the recorded one.

@@ -4,7 +4,7 @@ ghost use Rattle.std.specs.Prelude.{◌≡◌, false, cond, ◌+◌, ◌≤◌, 
 ghost use Rattle.replay.specs.Answers.{page_lent, same_report, same_digest, only_given, same_leaf};
 ghost use Rattle.replay.specs.Counts.{Counted};
 
-use crate::bytes::{HELD, byte, held, key, number, same_key, same_part};
+use crate::bytes::{HELD, byte, held, key, number, same, same_part};
 use crate::reading::read_full;
 use crate::score::Score;
 use leaf_digest::LeafGave;
@@ -24,7 +24,19 @@ const AREA: usize = 20480;
 
 const TICKET_BYTES: usize = 325;
 
-// The kind of a leaf's record.
+// The kinds of records: a page that is lent from now on, the calls, and a leaf that a digest gave.
+const LENT: u8 = 0;
+
+const OPEN: u8 = 1;
+
+const INGEST: u8 = 2;
+
+const DIGEST: u8 = 3;
+
+const NEXT_BASE: u8 = 4;
+
+const REMOVE_CUTOFF: u8 = 5;
+
 const LEAF: u8 = 6;
 
 // Where a record has its parts.
@@ -64,26 +76,8 @@ impl Run {
     fn new(t: Score) -> Self
         ensures { result.score ≡ t }
     {
-        let none = [0u8; 32];
         Self {
-            work: Work {
-                turn: 0,
-                based: 0,
-                mode: 0,
-                low: 0,
-                used: 0,
-                filled: 0,
-                count: 0,
-                bytes: 0,
-                latest: none,
-                cut: 0,
-                cutoff: none,
-                over: 0,
-                overriding: none,
-                floor: none,
-                taken: 0,
-                last: none,
-            },
+            work: Work::default(),
             score: t,
         }
     }
@@ -192,7 +186,7 @@ fn same_digest(v: &[u8], reply: LeafGave) -> bool
 {
     let cutoff = reply.cutoff;
     let said = (reply.refusal == byte(v, REFUSAL)) & (reply.waiting == byte(v, SAID));
-    said & ((reply.leaves == number(v, NUMBER)) & same_key(v, WAIT, &cutoff))
+    said & ((reply.leaves == number(v, NUMBER)) & same(v, WAIT, &cutoff))
 }
 
 // The bytes behind what a digest gave are as they were.
@@ -312,10 +306,10 @@ fn digest<R: Read>(
 // All calls but the digest.
 fn called(v: &[u8], run: Run, list: &mut [Entry], store: &mut [u8], page: &[u8]) -> Run {
     match byte(v, 0) {
-        1 => open(v, run, list, store, page),
-        2 => ingest(v, run, list, store, page),
-        4 => next_base(v, run, list, store, page),
-        5 => remove_cutoff(v, run, list, store),
+        OPEN => open(v, run, list, store, page),
+        INGEST => ingest(v, run, list, store, page),
+        NEXT_BASE => next_base(v, run, list, store, page),
+        REMOVE_CUTOFF => remove_cutoff(v, run, list, store),
         _ => run.count(false),
     }
 }
@@ -330,8 +324,8 @@ fn replayed<R: Read>(
     page: &mut [u8],
 ) -> io::Result<Run> {
     match byte(v, 0) {
-        0 => Ok(lend(v, run, page)),
-        3 => digest(file, v, run, list, store, page),
+        LENT => Ok(lend(v, run, page)),
+        DIGEST => digest(file, v, run, list, store, page),
         _ => Ok(called(v, run, list, store, page)),
     }
 }

@@ -3,7 +3,7 @@ ghost use Rattle.std.specs.Prelude.{◌<◌};
 
 use crate::keys::key_of;
 use crate::line::{close, say_reply};
-use crate::works::{new_list, no_work, open, page_of};
+use crate::works::{new_list, open, page_of};
 use leaf_digest::LeafGave;
 use leaf_updater::{leaf_digest, leaf_ingest, leaf_page_values_size};
 use leaf_work::{Entry, Work};
@@ -54,7 +54,7 @@ impl<'a> Values<'a> {
 // An opening, with a cutoff where `cut` is set; so many values, and a digest.
 fn digested(base: Option<&[u8]>, cut: bool, values: Values<'_>, area: &mut [u8]) -> LeafGave {
     let page = page_of(base);
-    let mut work = no_work();
+    let mut work = Work::default();
     let mut list = new_list();
     let mut store = [0u8; 9000];
     let mut tickets = [0u8; 260];

@@ -8,28 +8,6 @@ use leaf_updater::{leaf_ingest, leaf_open};
 use leaf_work::{Entry, Work};
 use std::io;
 
-pub(crate) fn no_work() -> Work {
-    let none = [0u8; 32];
-    Work {
-        turn: 0,
-        based: 0,
-        mode: 0,
-        low: 0,
-        used: 0,
-        filled: 0,
-        count: 0,
-        bytes: 0,
-        latest: none,
-        cut: 0,
-        cutoff: none,
-        over: 0,
-        overriding: none,
-        floor: none,
-        taken: 0,
-        last: none,
-    }
-}
-
 // A list that an opening takes.
 pub(crate) fn new_list() -> [Entry; 121] {
     [blank_entry(); 121]
@@ -55,17 +33,17 @@ pub(crate) fn open(
         list,
         store,
         mode,
-        base.is_some() as u8,
+        u8::from(base.is_some()),
         page_of(base),
         &[0u8; 32],
-        cut as u8,
+        u8::from(cut),
         &[0xffu8; 32],
     )
 }
 
 // An opening of a work without a base.
 fn opens(list: &mut [Entry]) -> u8 {
-    let mut work = no_work();
+    let mut work = Work::default();
     let mut store = [0u8; 4096];
     open(&mut work, 0, None, false, list, &mut store)
 }
@@ -90,7 +68,7 @@ fn list_of_121(rt: &impl Print) -> io::Result<()> {
 fn ingested(mode: u8, base: Option<&[u8]>, key: &[u8; 32], value: Option<&[u8]>) -> LeafReport {
     let mut list = new_list();
     let mut store = [0u8; 4096];
-    let mut work = no_work();
+    let mut work = Work::default();
     open(&mut work, mode, base, false, &mut list, &mut store);
     leaf_ingest(
         &mut work,
@@ -98,7 +76,7 @@ fn ingested(mode: u8, base: Option<&[u8]>, key: &[u8; 32], value: Option<&[u8]>)
         &mut store,
         page_of(base),
         key,
-        value.is_some() as u8,
+        u8::from(value.is_some()),
         0,
         value.unwrap_or(&[]),
     )

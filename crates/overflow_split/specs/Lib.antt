@@ -1,2 +1,0 @@
--- What the steps of splitting answer.
-pub mod Steps
