@@ -4,7 +4,7 @@ use mathlib.Core.List.{List, [], ◌∷◌, ◌++◌, append-nil, append_assoc}
 use Prim.Native.Nat.{ℕ, zero, suc, ◌+◌, ◌-◌, ◌≤◌, ◌<◌}
 use native.Mathlib.Omega.{arith}
 use native.Mathlib.Numerals.{add-one}
-use lib.ListN.{length, get_or, take, drop, length-append, length-map}
+use lib.ListN.{length, get_or, take, drop, length-append, length-drop, length-map}
 use lib.Seq.{drop-append-le, drop-append-add}
 use borrow.Author.Tests.{eq-eqb, ne_eqb}
 use Rattle.leaf_node.specs.Record.{Record}
@@ -122,3 +122,9 @@ module _ (list : List Entry) (store page : List ℕ) (s : Span) (h : Kept list s
       let d : count page - (s.low + at.skip) ≡ count page - s.low - at.skip = omega arith in
       rw (all, e, c, drop-append-add (listed store page s.used list) (records_between page s.low (count page)) at.skip, d)
       (drop_run at.skip (count page - s.low) s.low (record_at page) (omega arith))
+
+  pub an_entry_has_records_from_its_cursor_on : at.entry < s.used → at.skip < length (entry_sizes page (get_or list at.entry blank))
+      → 0 < length (entry_records store page (get_or list at.entry blank) at.skip)
+  unfolding entry_records
+  an_entry_has_records_from_its_cursor_on l k =
+      omega (arith, length-drop at.skip (records_held store page (entry_places page (get_or list at.entry blank))), entry_count list store page s h at.entry l)
