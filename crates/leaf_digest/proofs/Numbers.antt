@@ -30,6 +30,13 @@ listed_gauge w = record { count = w.count; bytes = w.bytes }
 
 -- ---- all that is pending
 
+pub the_area_is_tested : (size : ℕ) (listed : Gauge) (p : List ℕ) (low n : ℕ) (g : Gauge) (area tickets : ℕ) (r : Bool) → n ≡ count p
+    → g.count ≡ listed.count + (n - low) → g.bytes ≡ listed.bytes + values_size p low n
+    → r ≡ (leb (pages_asked size (34 * g.count + g.bytes) * size) area && leb (pages_asked size (34 * g.count + g.bytes) * 65) tickets)
+    → r ≡ (leb (pages_asked size (body_with listed p low) * size) area && leb (pages_asked size (body_with listed p low) * 65) tickets)
+unfolding body_with
+the_area_is_tested size listed p low n g area tickets r e gc gb q = rw (q, gc, gb, e)
+
 module _ (size : ℕ) (w : Work) (list : List Entry) (store page : List ℕ) (z : lent_verdict size w list store page ≡ 0) where
   abbrev p : List ℕ
   p = regarded w page
@@ -79,15 +86,10 @@ module _ (size : ℕ) (w : Work) (list : List Entry) (store page area tickets : 
         let r = accepted_things_are_ready size w list store page (sym e ∙ z) s in
         record { few = omega (arith, r.few); short = omega (arith, r.store_room, r.store_short) }
 
-    module _ (n : ℕ) (l : n ≡ count p) (g : Gauge) (gc : g.count ≡ w.count + (n - w.low)) (gb : g.bytes ≡ w.bytes + values_size p w.low n)
-        (o : Bool) (f : o ≡ is_open w) (i : not o ≡ false) (t : Bool)
-        (r : t ≡ (leb (pages_asked size (34 * g.count + g.bytes) * size) (length area) && leb (pages_asked size (34 * g.count + g.bytes) * 65) (length tickets))) where
-      the_body : 34 * g.count + g.bytes ≡ body_with (listed_gauge w) p w.low
-      unfolding body_with
-      the_body = rw (gc, gb, l)
-
+    module _ (o : Bool) (f : o ≡ is_open w) (i : not o ≡ false) (t : Bool)
+        (r : t ≡ (leb (pages_asked size (body_with (listed_gauge w) p w.low) * size) (length area) && leb (pages_asked size (body_with (listed_gauge w) p w.low) * 65) (length tickets))) where
       pages : has_pages size (pending_of w list store (regarded w page)) area tickets ≡ t
-      pages = rw (the_pending_body size w list store page (sym e ∙ z), ← q, ← the_body) (sym r)
+      pages = rw (the_pending_body size w list store page (sym e ∙ z), ← q) (sym r)
 
       pub a_short_area_has_number_17 : not t ≡ true → short_area ≡ number
       unfolding digest_verdict

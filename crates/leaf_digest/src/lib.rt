@@ -2,12 +2,14 @@
 // Ported from nomt/src/beatree/ops/update/leaf_updater.rs of thrumdev/nomt: `LeafUpdater::digest`.
 #![tactic(auto)]
 
-ghost use Rattle.std.specs.Prelude.{◌≡◌, cond, IfOk};
+ghost use Rattle.std.specs.Prelude.{◌≡◌, ◌&&◌, cond, ◌*◌, ◌≤◌, leb, IfOk};
 ghost use Rattle.refusal.specs.Numbers.{number_of};
+ghost use Rattle.leaf_node.specs.Limits.{pages_asked};
 ghost use Rattle.leaf_work.specs.Tests.{is_set};
 ghost use Rattle.leaf_work.specs.Lent.{regarded};
+ghost use Rattle.leaf_cut.specs.Steps.{Modest};
 ghost use Rattle.leaf_digest.specs.Reply.{gave_out, reply_of};
-ghost use Rattle.leaf_digest.specs.Steps.{lent_digest_verdict, digest_work_by};
+ghost use Rattle.leaf_digest.specs.Steps.{lent_digest_verdict, body_with, digest_work_by};
 
 use leaf_check::lent_base;
 use leaf_cut::{Gauge, has_pages, pending_gauge};
@@ -72,6 +74,21 @@ impl From<Result<Given, Refusal>> for LeafGave {
 
 // ---- the number
 
+// Whether area and tickets have room for the pages that the digest of what is listed and of the base's rest asks for.
+fn has_area(
+    listed: Gauge,
+    node: LeafNode,
+    low: usize,
+    area: usize,
+    tickets: usize,
+    size: Size,
+) -> bool
+    requires { (low ≤ node.n) × (Modest listed) }
+    ensures { result ≡ (leb (pages_asked size.bytes (body_with listed node.entry.page.now low) * size.bytes) area && leb (pages_asked size.bytes (body_with listed node.entry.page.now low) * 65) tickets) }
+{
+    has_pages(pending_gauge(listed, node, low), area, tickets, size)
+}
+
 // The base as the work regards it, or what refuses a digest. What is lent is lent alone by C, and each is read here a single time.
 pub fn digest_base<'a>(
     work: &Work,
@@ -93,8 +110,7 @@ pub fn digest_base<'a>(
         count: work.count,
         bytes: work.bytes,
     };
-    let pending = pending_gauge(listed, node, work.low);
-    if !has_pages(pending, area.len(), tickets.len(), size) {
+    if !has_area(listed, node, work.low, area.len(), tickets.len(), size) {
         return Err(Refusal::ShortArea);
     }
     Ok(node)

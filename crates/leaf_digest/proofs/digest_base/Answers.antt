@@ -14,24 +14,22 @@ returns-then-not-is_open-clause-number c =
     let n = c.in_ok-node in
     only_an_open_work_is_digested a.size.bytes a.work.now a.list.now a.store.now a.page.now a.area.now a.tickets.now _ n.ensures.number refl _ n.ensures.base _ c.is_open.ensures (search rules)
 
-pub pending_gauge-pending-requires : goal.pending_gauge-pending-requires
-pending_gauge-pending-requires c =
+pub has_area-requires : goal.has_area-requires
+has_area-requires c =
     let a = c.args in
     let n = c.in_ok-node in (
       the_rest_is_there a.size.bytes a.work.now a.list.now a.store.now a.page.now a.area.now a.tickets.now _ n.ensures.number refl _ n.ensures.base _ n.node.counted.counted,
       listed_gauge_is_modest a.size.bytes a.work.now a.list.now a.store.now a.page.now a.area.now a.tickets.now _ n.ensures.number refl _ n.ensures.base a.size.right,
     )
 
-pub returns-then-not-has_pages-clause-number : goal.returns-then-not-has_pages-clause-number
-returns-then-not-has_pages-clause-number c =
+pub returns-then-not-has_area-clause-number : goal.returns-then-not-has_area-clause-number
+returns-then-not-has_area-clause-number c =
     let a = c.args in
     let n = c.in_ok-node in
-    let g = c.pending_gauge-pending.ensures in
-    a_short_area_has_number_17 a.size.bytes a.work.now a.list.now a.store.now a.page.now a.area.now a.tickets.now _ n.ensures.number refl _ n.ensures.base _ n.node.counted.counted _ g.0 g.1 _ c.is_open.ensures (search rules) _ c.has_pages.ensures (search rules)
+    a_short_area_has_number_17 a.size.bytes a.work.now a.list.now a.store.now a.page.now a.area.now a.tickets.now _ n.ensures.number refl _ n.ensures.base _ c.is_open.ensures (search rules) _ c.has_area.ensures (search rules)
 
 pub returns-clause-number : goal.returns-clause-number
 returns-clause-number c =
     let a = c.args in
     let n = c.in_ok-node in
-    let g = c.pending_gauge-pending.ensures in
-    an_area_with_room_passes a.size.bytes a.work.now a.list.now a.store.now a.page.now a.area.now a.tickets.now _ n.ensures.number refl _ n.ensures.base _ n.node.counted.counted _ g.0 g.1 _ c.is_open.ensures (search rules) _ c.has_pages.ensures (search rules)
+    an_area_with_room_passes a.size.bytes a.work.now a.list.now a.store.now a.page.now a.area.now a.tickets.now _ n.ensures.number refl _ n.ensures.base _ c.is_open.ensures (search rules) _ c.has_area.ensures (search rules)
