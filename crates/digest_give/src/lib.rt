@@ -9,7 +9,6 @@ use digest_leaf::Pending;
 use leaf_cut::Taken;
 use leaf_give::{Progress, give_ticket};
 use leaf_node::Size;
-use leaf_write::next_separator;
 
 // Gives out a leaf that was taken off what is pending: its page and its ticket.
 pub fn give_leaf(
@@ -26,10 +25,7 @@ pub fn give_leaf(
     let from = p.leaves * size.bytes;
     let to = from + size.bytes;
     pending.build_leaf(p.at, taken.end.leaf, &mut area[from..to]);
+    let next = pending.next_key(taken.at);
     let cutoff = pending.work.cutoff();
-    let Some(key) = pending.next_key(taken.at) else {
-        return give_ticket(p, taken, None, cutoff, tickets);
-    };
-    let next = next_separator(&area[from..to], taken.end.leaf.count - 1, key);
-    give_ticket(p, taken, Some(&next), cutoff, tickets)
+    give_ticket(p, taken, next, cutoff, &area[from..to], tickets)
 }

@@ -4,7 +4,7 @@ use Rattle.std.proofs.Math.Option.{Option, none, some}
 use Rattle.bit_ops.specs.Separate.{separate_leaves}
 use Rattle.leaf_node.specs.Limits.{body_limit}
 use Rattle.leaf_node.specs.Record.{Record, total}
-use Rattle.leaf_node.specs.Page.{values_size}
+use Rattle.leaf_node.specs.Page.{pointer, key_at, values_size}
 use Rattle.leaf_node.specs.Build.{put, build}
 use Rattle.leaf_node.specs.Ticket.{packed_with}
 use Rattle.leaf_node.specs.Fits.{All, Fits}
@@ -46,6 +46,15 @@ pub record TicketAsked (p : Progress) (leaf : Gauge) (tickets : ℕ) : Type 0 wh
 abbrev pub between : List ℕ → Option (List ℕ) → Option (List ℕ)
 between last none = none
 between last (some first) = some (separate_leaves last first zero_key)
+
+-- that, by the leaf's page and its gauge
+abbrev pub separator_behind : List ℕ → Gauge → Option (List ℕ) → Option (List ℕ)
+separator_behind built leaf first = between (key_at built (leaf.count - 1)) first
+
+-- where there are records behind it, the leaf's page has the leaf's last key
+abbrev pub LastKeyThere : List ℕ → Gauge → Option (List ℕ) → Type 0
+LastKeyThere built leaf none = Unit {0}
+LastKeyThere built leaf (some first) = (0 < leaf.count) × (pointer (leaf.count - 1 + 1) ≤ length built)
 
 -- the first of two keys that is there
 abbrev pub first_of : Option (List ℕ) → Option (List ℕ) → Option (List ℕ)

@@ -8,12 +8,12 @@ ghost use Rattle.leaf_node.specs.Limits.{merge_below};
 ghost use Rattle.leaf_work.specs.Tests.{lent_key};
 ghost use Rattle.leaf_cut.specs.Sizes.{body_of};
 ghost use Rattle.leaf_cut.specs.Steps.{Modest};
-ghost use Rattle.leaf_give.specs.Steps.{TicketAsked, FurtherBy, listed_in, BegunBy};
+ghost use Rattle.leaf_give.specs.Steps.{TicketAsked, LastKeyThere, separator_behind, FurtherBy, listed_in, BegunBy};
 
 use leaf_cut::{Cursor, Gauge, Taken, pending_gauge, target_of};
 use leaf_node::{LeafNode, Size};
 use leaf_work::Work;
-use leaf_write::put_ticket;
+use leaf_write::{next_separator, put_ticket};
 
 // How far a digest has come: the cursor behind the leaves given out, the records behind it, how many leaves there are, where the next
 // ticket begins, and the separator of what follows.
@@ -28,20 +28,24 @@ pub struct Progress {
 
 // ---- one leaf
 
-// The ticket of a leaf, up to what separates it from the records behind it, where there are any, else up to the cutoff; and how far the digest has
-// come with it.
+// The ticket of a leaf, up to what separates it from the records behind it, by its page and the first key of these, where there are any, else up to
+// the cutoff; and how far the digest has come with it.
 pub fn give_ticket(
     p: Progress,
     taken: Taken,
     next: Option<&[u8; 32]>,
     cutoff: Option<&[u8; 32]>,
+    built: &[u8],
     tickets: &mut [u8],
 ) -> Progress
-    requires { TicketAsked p taken.end.leaf (length tickets.old) }
-    ensures { FurtherBy p taken (lent_key next.entry) (lent_key cutoff.entry) tickets.old result tickets.new }
+    requires { (TicketAsked p taken.end.leaf (length tickets.old)) × (LastKeyThere built.now taken.end.leaf (lent_key next)) }
+    ensures { FurtherBy p taken (separator_behind built.now taken.end.leaf (lent_key next.entry)) (lent_key cutoff.entry) tickets.old result tickets.new }
 {
-    let place = put_ticket(tickets, p.place, &p.separator, next.or(cutoff));
-    let separator = *next.unwrap_or(&p.separator);
+    let between = match next {
+        Some(key) => Some(next_separator(built, taken.end.leaf.count - 1, key)),
+        None => None,
+    };
+    let place = put_ticket(tickets, p.place, &p.separator, between.as_ref().or(cutoff));
     Progress {
         at: taken.at,
         left: Gauge {
@@ -50,7 +54,7 @@ pub fn give_ticket(
         },
         leaves: p.leaves + 1,
         place,
-        separator,
+        separator: between.unwrap_or(p.separator),
     }
 }
 
