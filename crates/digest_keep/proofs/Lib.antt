@@ -4,3 +4,4 @@ pub mod Records
 pub mod Entries
 pub mod Parts
 pub mod Keeping
+pub mod Clearing

@@ -15,7 +15,7 @@ ghost use Rattle.leaf_cut.specs.Records.{records_from};
 ghost use Rattle.leaf_write.specs.Filling.{insert_record, InsertIn};
 ghost use Rattle.leaf_move.specs.Moving.{settled};
 ghost use Rattle.leaf_raise.specs.Raising.{Raised};
-ghost use Rattle.leaf_merge.specs.Keeping.{KeptAs};
+ghost use Rattle.leaf_merge.specs.Keeping.{Keeps, KeptAs};
 ghost use Rattle.leaf_merge.specs.Lifting.{Raises};
 ghost use Rattle.digest_keep.specs.Lifting.{LiftedTo, last_record, RoomFor, LastThere, part_records, RaisedTo, Raisable, place_before, part_of, RestThere, room_by};
 ghost use Rattle.digest_keep.specs.Keeping.{KeepsIn};
@@ -203,4 +203,21 @@ pub fn prepare_merge_ops(
     raise(list, store, node, span, at, start);
     settle_first(list, room, left.count);
     settle_bytes(store, left.bytes, work.filled);
+}
+
+// The same for a caller that doesn't know what its list holds behind the used entries: they are cleared first. Of a sound work they are zeros, so
+// that a digest calls `prepare_merge_ops`, which doesn't go over them.
+pub fn prepare_merge_ops_of_any_list(
+    work: &Work,
+    list: &mut [Entry],
+    store: &mut [u8],
+    node: LeafNode,
+    at: Cursor,
+    left: Gauge,
+)
+    requires { Keeps work.now list.old store.old node.page.now at left (length list.old) }
+    ensures { KeptAs work.now list.old store.old node.entry.page.now at list.new store.new }
+{
+    drain(list, work.used);
+    prepare_merge_ops(work, list, store, node, at, left);
 }
