@@ -1,3 +1,4 @@
 -- The laws of a digest over a list of entries.
 pub mod Digesting
+pub mod Clearing
 pub mod Calls

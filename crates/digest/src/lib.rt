@@ -6,13 +6,14 @@ ghost use Rattle.std.specs.Prelude.{◌≡◌, length};
 ghost use Rattle.leaf_node.specs.Fits.{All};
 ghost use Rattle.leaf_work.specs.Digest.{digest_of};
 ghost use Rattle.leaf_digest.specs.Reply.{given_of, reply_of};
-ghost use Rattle.leaf_digest.specs.Steps.{Leaves};
+ghost use Rattle.leaf_digest.specs.Steps.{Digests, Leaves};
 ghost use Rattle.digest.specs.Steps.{outcome_of, reply_by, Ready};
 
 use digest_keep::prepare_merge_ops;
 use digest_leaf::Pending;
 use digest_leaves::give_leaves;
 use leaf_digest::{Given, digest_base, digest_work};
+use leaf_entries::drain;
 use leaf_give::Progress;
 use leaf_node::{LeafNode, PAGE, Size};
 use leaf_work::{Entry, Work};
@@ -54,6 +55,24 @@ pub fn digest_ready(
     let given = given_by(work, p);
     *work = digest_work(work, p.left, &p.separator);
     given
+}
+
+// The same for a caller that doesn't know what its list holds behind the used entries: they are cleared first. Of a sound work they are zeros, so
+// that `digest` calls `digest_ready`, which doesn't go over them.
+pub fn digest_ready_of_any_list(
+    work: &mut Work,
+    list: &mut [Entry],
+    store: &mut [u8],
+    node: LeafNode,
+    area: &mut [u8],
+    tickets: &mut [u8],
+    size: Size,
+) -> Given
+    requires { Digests size.bytes work.old list.old store.old node.page.now area.old tickets.old }
+    ensures { Leaves (outcome_of size.bytes work.old list.old store.old node.entry.page.now area.old tickets.old) (given_of result) work.new list.new store.new area.new tickets.new }
+{
+    drain(list, work.used);
+    digest_ready(work, list, store, node, area, tickets, size)
 }
 
 // That a key has 32 bytes is known of one that is lent.
