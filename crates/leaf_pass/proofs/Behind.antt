@@ -50,12 +50,12 @@ module _ (b : Bounds) (page : List ℕ) where
       go true q false p = enough (with_chunk page z e) (cond_some (chunk_right b page z e) (with_chunk page z e) y p).1 (omega (arith, m))
 
   -- the first k, then the others
-  in_two : (k : ℕ) (z : Tally) (list : List Entry) → (k < length list → b.used ≤ z.seen + k)
+  pub the_pass_in_two : (k : ℕ) (z : Tally) (list : List Entry) → (k < length list → b.used ≤ z.seen + k)
       → passed_all b page z list ≡ option_and_then (λ y. cond (every is_blank (drop k list)) (Some y) None) (passed_all b page z (take k list))
-  in_two zero z [] h = refl
-  in_two (suc k) z [] h = refl
-  in_two zero z (e ∷ es) h = blanks_pass z (omega (arith, h (omega arith))) (e ∷ es)
-  in_two (suc k) z (e ∷ es) h = go (passed b page z e) (λ y q. in_two k y es (λ l. grows z y e q k (h (omega (arith, l)))))
+  the_pass_in_two zero z [] h = refl
+  the_pass_in_two (suc k) z [] h = refl
+  the_pass_in_two zero z (e ∷ es) h = blanks_pass z (omega (arith, h (omega arith))) (e ∷ es)
+  the_pass_in_two (suc k) z (e ∷ es) h = go (passed b page z e) (λ y q. the_pass_in_two k y es (λ l. grows z y e q k (h (omega (arith, l)))))
     where
       go : (o : Option Tally) → ((y : Tally) → o ≡ Some y → passed_all b page y es ≡ option_and_then (λ x. cond (every is_blank (drop k es)) (Some x) None) (passed_all b page y (take k es)))
           → option_and_then (λ y. passed_all b page y es) o
@@ -73,21 +73,27 @@ every_all (e ∷ es) = go (is_blank e) (every_all es)
     go true h = h
     go false h = refl
 
-module _ (b : Bounds) (page : List ℕ) (start : Tally) (list : List Entry) (n : ℕ) (m : n ≡ min b.used (length list)) (o : Option Tally)
+-- of any first ones that are all of the list, or as many as are used
+module _ (b : Bounds) (page : List ℕ) (start : Tally) (list : List Entry) (n : ℕ) (used : n < length list → b.used ≤ start.seen + n) (o : Option Tally)
     (e : o ≡ passed_all b page start (take n list)) where
   pub the_pass_over_all : (t : Bool) → t ≡ list_all is_blank (take (length list - n) (drop n list))
       → passed_all b page start list ≡ option_and_then (λ y. cond t (Some y) None) o
   the_pass_over_all t q =
       let all : take (length list - n) (drop n list) ≡ drop n list = take_all _ (drop n list) (omega (arith, length-drop n list)) in
       let look : t ≡ every is_blank (drop n list) = rw all at q ∙ every_all (drop n list) in
-      rw (e, look) (in_two b page n start list (λ l. omega (arith, m)))
+      rw (e, look) (the_pass_in_two b page n start list used)
 
 module _ (b : Bounds) (page : List ℕ) (start : Tally) (list : List Entry) (n : ℕ) (m : n ≡ min b.used (length list)) (o : Option Pass)
     (e : option_map (λ y. y.tally) o ≡ passed_all b page start (take n list)) where
+  pub those_are_the_used_ones : n < length list → b.used ≤ start.seen + n
+  those_are_the_used_ones l = omega (arith, m)
+
   pub a_wrong_used_one : (r : Option Pass) → o ≡ None → r ≡ None → option_map (λ y. y.tally) r ≡ passed_all b page start list
-  a_wrong_used_one r h f = rw (f, the_pass_over_all b page start list n m (option_map (λ (y : Pass). y.tally) o) e _ refl, h)
+  a_wrong_used_one r h f =
+      rw (f, the_pass_over_all b page start list n those_are_the_used_ones (option_map (λ (y : Pass). y.tally) o) e _ refl, h)
 
   pub the_others_decide : (z : Pass) (t : Bool) (r : Option Pass) → o ≡ Some z → t ≡ list_all is_blank (take (length list - n) (drop n list)) → r ≡ then_some t z
       → option_map (λ y. y.tally) r ≡ passed_all b page start list
   the_others_decide z t r h q f =
-      ap (option_map (λ (y : Pass). y.tally)) f ∙ tallied t z ∙ sym (rw h at (the_pass_over_all b page start list n m (option_map (λ (y : Pass). y.tally) o) e t q))
+      ap (option_map (λ (y : Pass). y.tally)) f ∙ tallied t z
+      ∙ sym (rw h at (the_pass_over_all b page start list n those_are_the_used_ones (option_map (λ (y : Pass). y.tally) o) e t q))
