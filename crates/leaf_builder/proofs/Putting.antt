@@ -1,11 +1,12 @@
 -- Elements put into a list one after the other, and bytes side by side. Assumes nothing.
 use Prim.Native.Nat.{ℕ, zero, suc, ◌+◌, ◌-◌, ◌≤◌}
 use mathlib.Core.Path.{◌≡◌, refl, sym, ap, ◌∙◌}
-use mathlib.Core.List.{List, [], ◌∷◌, ◌++◌, append-nil, append_assoc}
+use mathlib.Core.List.{List, [], ◌∷◌, ◌++◌, map, append-nil, append_assoc, map-append}
 use native.Mathlib.Omega.{arith}
 use native.Mathlib.Nat.{zero-add, suc-add, add-zero, add_assoc}
-use lib.ListN.{length, take, drop, length-append, length-drop, take-append-drop}
+use lib.ListN.{length, take, drop, length-append, length-drop, length-map, take-append-drop}
 use lib.Seq.{length-take-le, take-nil, take_at, drop_at, take-append_seam, drop-append-add, drop-drop}
+use Rattle.std.proofs.lemmas.List.{take-map, drop-map}
 use Rattle.leaf_node.specs.Build.{put}
 use Rattle.leaf_node.proofs.Copying.{put_past, put_front}
 
@@ -45,6 +46,19 @@ put_is d at s = refl
 pub put_parts : (d : List ℕ) (at : ℕ) (s : List ℕ) → put d at s ≡ take at d ++ (s ++ drop (at + length s) d)
 unfolding put
 put_parts d at s = append_assoc (take at d) s (drop (at + length s) d)
+
+-- what a function makes of each element
+pub map_put : {A B : Type 0} (f : A → B) (xs : List A) (at : ℕ) (a : List A) → map f (put xs at a) ≡ put (map f xs) at (map f a)
+unfolding put
+map_put f xs at a =
+    map-append f (take at xs ++ a) (drop (at + length a) xs) ∙ rw (map-append f (take at xs) a, take-map f at xs, length-map a f, drop-map f (at + length a) xs)
+
+-- t in the place of s
+pub put_over : (d : List ℕ) (at : ℕ) (s t : List ℕ) → at ≤ length d → length s ≡ length t → put (put d at s) at t ≡ put d at t
+put_over d at s t h e =
+    let l : length (take at d) ≡ at = length-take-le at d h in
+    let r : List ℕ = drop (at + length s) d in
+    rw (put_parts d at s, put_past (take at d) (s ++ r) t at 0 (omega arith), put_front s r t e, put_parts d at t, e)
 
 -- t right behind s
 pub put_put : {A : Type 0} (d : List A) (at : ℕ) (s : List A) (b : ℕ) (t : List A) → b ≡ at + length s → at ≤ length d → put (put d at s) b t ≡ put d at (s ++ t)

@@ -1,14 +1,22 @@
 -- New elements in the places right below an index: what they leave as it was, and how they come one below the other. Assumes nothing.
 use mathlib.Core.Path.{◌≡◌, sym, ap, ◌∙◌}
-use mathlib.Core.List.{List, [], ◌∷◌, ◌++◌, append_assoc}
+use mathlib.Core.List.{List, [], ◌∷◌, ◌++◌, map, append_assoc, map-append}
 use Prim.Native.Nat.{ℕ, ◌+◌, ◌-◌, ◌≤◌, ◌<◌}
 use native.Mathlib.Omega.{arith}
 use native.Mathlib.Numerals.{add-one}
-use lib.ListN.{length, get_or, set, take, drop, length-append, length-drop, take-append-drop}
+use lib.ListN.{length, get_or, set, take, drop, length-append, length-drop, length-map, take-append-drop}
 use lib.Seq.{length-take-le, take-append-le, take-take, drop_at, get_or-take, set_split}
+use Rattle.std.proofs.lemmas.List.{take-map, drop-map}
 use Rattle.leaf_node.specs.Build.{put}
 use Rattle.leaf_builder.proofs.Putting.{take_drop}
 use Rattle.leaf_move.specs.Moving.{under}
+
+-- what a function makes of each element
+pub map_under : {A B : Type 0} (f : A → B) (xs : List A) (t : ℕ) (new : List A) → map f (under xs t new) ≡ under (map f xs) t (map f new)
+unfolding under
+map_under {A} {B} f xs t new =
+    map-append f (take (t - length new) xs ++ new) (drop t xs) ∙ ap (λ (l : List B). l ++ map f (drop t xs)) (map-append f (take (t - length new) xs) new)
+    ∙ rw (length-map new f, take-map f (t - length new) xs, drop-map f t xs)
 
 module _ {A : Type 0} where
   pub under_is : (xs : List A) (t : ℕ) (new : List A) → under xs t new ≡ take (t - length new) xs ++ (new ++ drop t xs)
