@@ -10,4 +10,5 @@ pub mod Decoding
 pub mod Readiness
 pub mod PendingRecords
 pub mod Canonical
+pub mod Records
 pub mod Examples
