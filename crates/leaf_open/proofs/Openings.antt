@@ -26,7 +26,7 @@ a_page_has_4096_bytes = record { least = omega arith; most = omega arith }
 
 -- ---- the number
 
-base_then_room : (size : ℕ) (list : List Entry) (store : List ℕ) (base : std.Option Base) (cutoff : std.Option (Bor (List ℕ))) → open_verdict size (opening_lent base cutoff) list store
+pub base_then_room : (size : ℕ) (list : List Entry) (store : List ℕ) (base : std.Option Base) (cutoff : std.Option (Bor (List ℕ))) → open_verdict size (opening_lent base cutoff) list store
     ≡ first (open_base_verdict size base cutoff) (unless 7 (room_right size (length list) (length store)) 0)
 unfolding open_verdict opening_lent
 base_then_room size list store (std.Some base) (std.Some cutoff) = refl
@@ -50,7 +50,7 @@ module _ (size : ℕ) (base : std.Option Base) (cutoff : std.Option (Bor (List �
 
 -- ---- the outcome
 
-fresh_work_is_open : (size : ℕ) (every : Bool) (base : std.Option Base) (cutoff : std.Option (Bor (List ℕ))) (list : List Entry) (store : List ℕ) → open_verdict size (opening_lent base cutoff) list store ≡ 0
+pub fresh_work_is_open : (size : ℕ) (every : Bool) (base : std.Option Base) (cutoff : std.Option (Bor (List ℕ))) (list : List Entry) (store : List ℕ) → open_verdict size (opening_lent base cutoff) list store ≡ 0
     → fresh_work every (is_some (separator_lent base)) (key_or_zeros (separator_lent base)) (is_some cutoff) (key_or_zeros cutoff) ≡ open_work every (opening_lent base cutoff)
 unfolding open_verdict opening_lent
 fresh_work_is_open size every (std.Some base) (std.Some cutoff) list store e = refl
@@ -59,7 +59,7 @@ fresh_work_is_open size every std.None (std.Some cutoff) list store e = absurd (
 fresh_work_is_open size every std.None std.None list store e = refl
 
 module _ (size : ℕ) (every : Bool) (x : Opening) (w : Work) (list : List Entry) (store : List ℕ) (v : ℕ) (e : v ≡ open_verdict size x list store) where
-  refused_outcome : (v ≡ 0 → ⊥) → open_of size every x w list store ≡ record { reply = Refused v; work = w; list = list; store = store }
+  pub refused_outcome : (v ≡ 0 → ⊥) → open_of size every x w list store ≡ record { reply = Refused v; work = w; list = list; store = store }
   unfolding open_of
   refused_outcome h = let f : eqb (open_verdict size x list store) 0 ≡ false = rw (← e) (ne_eqb v 0 h) in rw (f, open_of, e)
 
@@ -67,7 +67,7 @@ module _ (size : ℕ) (every : Bool) (x : Opening) (w : Work) (list : List Entry
       → (let o : Opened = open_of size every x w list store in (v ≡ reply_number o.reply) × (w ≡ o.work) × (list ≡ o.list) × (store ≡ o.store))
   a_refused_opening_changes_nothing h = rw (refused_outcome h) (refl, refl, refl, refl)
 
-  accepted_outcome : v ≡ 0
+  pub accepted_outcome : v ≡ 0
       → open_of size every x w list store ≡ record { reply = Accepted; work = open_work every x; list = replicate (length list) blank; store = zeros (length store) }
   unfolding open_of
   accepted_outcome z = let f : eqb (open_verdict size x list store) 0 ≡ true = rw (← e) (eq-eqb v 0 z) in rw (f, open_of)

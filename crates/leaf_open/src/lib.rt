@@ -38,7 +38,7 @@ fn separator_of<'a>(base: Option<Base<'a>>) -> Option<&'a [u8; 32]>
 }
 
 // What an opening's base refuses, or a cutoff without one.
-fn open_base_verdict(
+pub fn open_base_verdict(
     base: Option<Base>,
     cutoff: Option<&[u8; 32]>,
     size: Size,
