@@ -7,7 +7,7 @@ use Prim.Native.Nat.{ℕ, ◌+◌, ◌-◌, ◌≤◌, ◌<◌}
 use native.Mathlib.Omega.{arith}
 use lib.Dec.{leb}
 use lib.ListN.{length}
-use borrow.Author.Tests.{ne_eqb, le-leb, lt-leb, leb-true, not-true, not-false}
+use borrow.Author.Tests.{eq-eqb, ne_eqb, le-leb, lt-leb, leb-true, not-true, not-false}
 use Rattle.std.specs.Prelude as std
 use Rattle.std.specs.Borrow.{Bor}
 use Rattle.std.specs.Option.{is_some}
@@ -32,10 +32,33 @@ use Rattle.leaf_work.proofs.BasePages.{base_page_is_good}
 use Rattle.leaf_base.proofs.Bases.{first_refused}
 use Rattle.leaf_open.specs.Opening.{key_or_zeros}
 
+-- ---- room, turn and soundness
+
+module _ (size : ℕ) (list : List Entry) (store : List ℕ) (t : Bool) (q : t ≡ room_right size (length list) (length store)) (w : Work) where
+  pub wrong_room_comes_first : not t ≡ true → 7 ≡ closed_verdict size w list store 0
+  wrong_room_comes_first h = rw (← q, not-true t h)
+
+  module _ (n : not t ≡ false) where
+    pub an_open_work_is_out_of_turn : w.turn ≡ 1 → 9 ≡ closed_verdict size w list store 0
+    an_open_work_is_out_of_turn e = rw (← q, not-false t n, eq-eqb w.turn 1 e)
+
+    module _ (ne : w.turn ≡ 1 → ⊥) (b : Bool) (d : b ≡ sound size w list store []) where
+      pub an_unsound_work_is_refused : not b ≡ true → 8 ≡ closed_verdict size w list store 0
+      an_unsound_work_is_refused h = rw (← q, not-false t n, ne_eqb w.turn 1 ne, ← d, not-true b h)
+
+      pub a_sound_work_passes : not b ≡ false → 0 ≡ closed_verdict size w list store 0
+      a_sound_work_passes h = rw (← q, not-false t n, ne_eqb w.turn 1 ne, ← d, not-false b h)
+
 -- ---- a page that follows
 
 module _ (w : Work) (p s : List ℕ) (entries bytes : ℕ) where
+  pub no_cutoff_is_out_of_turn : w.cut ≡ 0 → 9 ≡ follows_verdict w p s entries bytes
+  no_cutoff_is_out_of_turn e = rw (eq-eqb w.cut 0 e)
+
   module _ (cut : w.cut ≡ 0 → ⊥) (t : Bool) (q : t ≡ lt_key s w.cutoff) where
+    pub a_low_separator_has_number_13 : t ≡ true → 13 ≡ follows_verdict w p s entries bytes
+    a_low_separator_has_number_13 h = rw (ne_eqb w.cut 0 cut, ← q, h)
+
     module _ (h : t ≡ false) (n : ℕ) (e : n ≡ count p) (few : n ≤ entries) where
       record_count : length (records p) ≡ n
       unfolding records records_between
