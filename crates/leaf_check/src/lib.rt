@@ -80,7 +80,7 @@ fn absent_zero(work: &Work) -> bool
     one & (two & three)
 }
 
-fn record_right(work: &Work) -> bool
+pub fn record_right(work: &Work) -> bool
     ensures { result ≡ record_right work.now }
 {
     marks_right(work) & (floor_right(work) & absent_zero(work))
@@ -121,7 +121,7 @@ fn listed_below(work: &Work, tally: &Tally) -> bool
     (tally.count == 0) | is_below(&tally.last, work.cutoff())
 }
 
-fn begin(work: &Work) -> Pass
+pub fn begin(work: &Work) -> Pass
     ensures { result.tally ≡ begun (separator_of work.now) }
 {
     let tally = Tally {
