@@ -81,7 +81,7 @@ module _ (p : List ℕ) (e : Entry) (t : Bool) (q : t ≡ eqb e.kind 1) where
     pub chunk_record_is_found : (i : ℕ) → i < records_in e → (x : Place) → x ≡ in_base p (e.from + i) → Found x ≡ nth_place i (entry_places p e)
     chunk_record_is_found i k x f = rw (chunk_places_lem, f) (sym (run_at p (e.to - e.from) e.from i (omega (arith, many_records))))
 
-entry_length : (p : List ℕ) (e : Entry) → length (entry_places p e) ≡ records_in e
+pub entry_length : (p : List ℕ) (e : Entry) → length (entry_places p e) ≡ records_in e
 entry_length p e = go (eqb e.kind 1) refl
   where
     go : (b : Bool) → b ≡ eqb e.kind 1 → length (entry_places p e) ≡ records_in e
