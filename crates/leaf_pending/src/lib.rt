@@ -97,7 +97,7 @@ fn base_record(node: LeafNode, i: usize) -> Place
 }
 
 // Record i of the base's rest, which begins at `low`.
-fn rest_record(node: LeafNode, low: usize, i: usize) -> Result<Place, Refusal>
+pub fn rest_record(node: LeafNode, low: usize, i: usize) -> Result<Place, Refusal>
     requires { low ≤ node.n }
     ensures { twin_reply result ≡ nth_place i (chunk_places node.entry.page.now low (count node.entry.page.now)) }
 {
@@ -108,7 +108,7 @@ fn rest_record(node: LeafNode, low: usize, i: usize) -> Result<Place, Refusal>
 }
 
 // Record i of an entry.
-fn entry_record(entry: &Entry, node: LeafNode, i: usize) -> Place
+pub fn entry_record(entry: &Entry, node: LeafNode, i: usize) -> Place
     requires { (EntryRead node.n entry.now) × (i < records_in entry.now) }
     ensures { Found (place_of result) ≡ nth_place i (entry_places node.entry.page.now entry.now) }
 {
@@ -159,7 +159,7 @@ pub fn twin(
 }
 
 // The bytes at a place, of whichever holds it.
-fn part_at<'a>(place: &Place, store: &'a [u8], page: &'a [u8]) -> &'a [u8]
+pub fn part_at<'a>(place: &Place, store: &'a [u8], page: &'a [u8]) -> &'a [u8]
     requires { LiesIn store.now page.now (place_of place.now) }
     ensures { result.now ≡ part_at store.now page.now (place_of place.now) }
 {
