@@ -17,7 +17,7 @@ use Rattle.leaf_model.proofs.Lists.{all_append, all_map}
 use Rattle.leaf_work.specs.declared.Work.{Work}
 use Rattle.leaf_work.specs.declared.Entry.{Entry}
 use Rattle.leaf_work.specs.Tests.{bit}
-use Rattle.leaf_work.specs.Lent.{blank, chunk_of, insert_at}
+use Rattle.leaf_work.specs.Lent.{blank, chunk_of, insert_at, regarded}
 use Rattle.leaf_work.specs.TakingUp.{value_of, chunk_entries, insert_entries, stop, low_after, new_entries}
 use Rattle.leaf_work.specs.Verdict.{ingest_verdict}
 use Rattle.leaf_work.specs.Outcome as outcome
@@ -156,3 +156,11 @@ module _ (size : ℕ) (w : Work) (list : List Entry) (store page k : List ℕ) (
       go : (b : Bool) → eqb (ingest_verdict size w list store page k c 0) 0 ≡ b → Ready after.work after.list after.store page
       go true e = rw (accepted e) (ready_again (eqb-true _ _ e))
       go false e = rw (refused e) r
+
+  -- the next one regards the same bytes of a lent page
+  pub an_ingest_keeps_what_the_work_regards : (lent : List ℕ) → regarded after.work lent ≡ regarded w lent
+  an_ingest_keeps_what_the_work_regards lent = go (eqb (ingest_verdict size w list store page k c 0) 0) refl
+    where
+      go : (b : Bool) → eqb (ingest_verdict size w list store page k c 0) 0 ≡ b → regarded after.work lent ≡ regarded w lent
+      go true e = rw (accepted e)
+      go false e = rw (refused e)
