@@ -13,7 +13,7 @@ use Rattle.refusal.specs.Numbers.{number}
 use Rattle.overflow.specs.Count.{size_right, page_count}
 use Rattle.overflow.specs.Read.{cell_count, cell_right}
 use Rattle.overflow.specs.Verdict.{count_verdict, split_verdict, all_right, read_verdict}
-use Rattle.overflow.proofs.Counts.{Sized, right_sizes, accepted_sizes, refused_sizes}
+use Rattle.overflow.proofs.Counts.{Sized, right_sizes, sizes_are_right, accepted_sizes, refused_sizes}
 
 -- ---- splitting
 
@@ -49,6 +49,11 @@ accepted_splittings n numbers area h = go (size_right n) (leb (page_count n) num
         record { sized = right_sizes n e; listed = leb-true (page_count n) numbers p.0; room = leb-true (4096 * page_count n) area p.1 }
     go true false e f z = absurd (omega arith)
     go false d e f z = absurd (omega arith)
+
+pub splittings_that_are_lent_enough : (n numbers area : ℕ) → Lent n numbers area → split_verdict n numbers area ≡ 0
+unfolding split_verdict
+splittings_that_are_lent_enough n numbers area l =
+    rw (sizes_are_right n l.sized.some l.sized.most, le-leb (page_count n) numbers l.listed, le-leb (4096 * page_count n) area l.room)
 
 -- ---- joining and freeing
 

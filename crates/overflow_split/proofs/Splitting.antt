@@ -80,13 +80,13 @@ module _ (t : ℕ) (ns v d : List ℕ) where
         sym (h.same ∙ rw (e, no_page (drop n ns) (drop from v)) (put_none x (4096 * i)))
 
     module _ (l : i < t) (r : 4096 * t ≤ length d) (a b : ℕ) (ea : a ≡ min 1023 (length ns - n)) (eb : b ≡ min (4092 - 4 * min 1023 (length ns - n)) (length v - from)) where
-      the_numbers_are_there : n + a ≤ length ns
+      pub the_numbers_are_there : n + a ≤ length ns
       the_numbers_are_there = omega (arith, h.numbers)
 
-      the_bytes_are_there : from + b ≤ length v
+      pub the_bytes_are_there : from + b ≤ length v
       the_bytes_are_there = omega (arith, h.bytes)
 
-      the_counts_fit : 4 * length (take (n + a - n) (drop n ns)) + length (take (from + b - from) (drop from v)) ≤ 4092
+      pub the_counts_fit : 4 * length (take (n + a - n) (drop n ns)) + length (take (from + b - from) (drop from v)) ≤ 4092
       the_counts_fit =
           let la : length (take (n + a - n) (drop n ns)) ≤ a = rw (add-sub_cancel_left n a) (few a (drop n ns)) in
           let lb : length (take (from + b - from) (drop from v)) ≤ b = rw (add-sub_cancel_left from b) (few b (drop from v)) in
