@@ -24,10 +24,10 @@ use Rattle.row_check.specs.Verdict.{row_of, whole_pages, leaves_verdict, pages_v
 
 -- ---- No. 17
 
-fewer_area_pages : (size area tickets : ℕ) → area / size < tickets / 65 → area / size ≡ pages_lent size area tickets
+pub fewer_area_pages : (size area tickets : ℕ) → area / size < tickets / 65 → area / size ≡ pages_lent size area tickets
 fewer_area_pages size area tickets h = rw (lt-ltb (area / size) (tickets / 65) h)
 
-fewer_ticket_places : (size area tickets : ℕ) → tickets / 65 ≤ area / size → tickets / 65 ≡ pages_lent size area tickets
+pub fewer_ticket_places : (size area tickets : ℕ) → tickets / 65 ≤ area / size → tickets / 65 ≡ pages_lent size area tickets
 fewer_ticket_places size area tickets h = rw (le-ltb (area / size) (tickets / 65) h)
 
 module _ (size area tickets : ℕ) where
