@@ -101,6 +101,9 @@ module _ (at : RowAt) (w : Work) (list : List Entry) (store page area tickets : 
   part_is from = ap (λ (n : ℕ). take n (drop from area)) (sym (length-drop from area)) ∙ take-length (drop from area)
 
   module _ (from : ℕ) (f : from ≡ at.leaves * 4096) where
+    pub the_area_begins : from ≤ length area
+    the_area_begins = omega (arith, f, h.area_room)
+
     abbrev rest : List ℕ
     rest = take (length area - from) (drop from area)
 

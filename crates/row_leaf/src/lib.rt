@@ -159,7 +159,7 @@ fn base_of(leaf: LeafAt, pages: &[u8]) -> LeafNode<'_>
 }
 
 // The work of a leaf that is loaded: the next base of what waits, or opened.
-fn begin_leaf(at: RowAt, leaf: LeafAt, page: &[u8], room: Room) -> Result<Work, Refusal>
+pub fn begin_leaf(at: RowAt, leaf: LeafAt, page: &[u8], room: Room) -> Result<Work, Refusal>
     requires { Begins at page.now room.entries room.bytes }
     ensures { LeafBegun at leaf page.now room.entries room.bytes result }
 {
