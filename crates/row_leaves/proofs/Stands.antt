@@ -802,8 +802,23 @@ module _ (list₀ : List Entry) (store₀ : List ℕ) (lent : LentRow) (area₀ 
     whole_is : k.t ≡ turns 4096 n m (nothing_yet 4096 n m) row edits
     whole_is = sym (ap (λ (ys : List RowLeaf). turns 4096 n m k.t ys (left at)) none_left) ∙ k.ends
 
-    pub the_row_is_turned : RowTurned list₀ store₀ pages separators changes values area₀ tickets₀ (Ok at) list store area tickets
-    the_row_is_turned = rw (← whole_is) (record {
+    pub the_last_leaf_ends_the_row : RowTurned list₀ store₀ pages separators changes values area₀ tickets₀ (Ok at) list store area tickets
+    the_last_leaf_ends_the_row = rw (← whole_is) (record {
       number_is = sym k.accepted;
       written = a_row_is_written area₀ tickets₀ k.t (cutoff_by (drop i row)) at list store area tickets k.on.written (k.on.turning.merges (ap cutoff_by none_left));
     })
+
+  -- ---- the turns of all leaves
+
+  -- where they ended: behind the last leaf, or with one that was refused
+  pub data Ended : Result RowAt Refusal → List Entry → List ℕ → List ℕ → List ℕ → Type 0 where
+    behind_the_last : (at : RowAt) (list : List Entry) (store area tickets : List ℕ) (i : ℕ) → Stands at list store area tickets i → length separators ≤ i → Ended (Ok at) list store area tickets
+    with_a_refused_leaf : (at : RowAt) (list : List Entry) (store area tickets : List ℕ) (i : ℕ) → Stands at list store area tickets i → i < length separators
+        → (u : Turn) → u ≡ turn_by at separators changes i → (f : Refusal) (list' : List Entry) (store' area' tickets' : List ℕ)
+        → LeafTurned u list store lent area tickets (Err f) list' store' area' tickets' → Ended (Err f) list' store' area' tickets'
+
+  pub the_row_is_turned : {r : Result RowAt Refusal} {list : List Entry} {store area tickets : List ℕ} → Ended r list store area tickets
+      → RowTurned list₀ store₀ pages separators changes values area₀ tickets₀ r list store area tickets
+  the_row_is_turned (behind_the_last at list store area tickets i k past) = the_last_leaf_ends_the_row at list store area tickets i k past
+  the_row_is_turned (with_a_refused_leaf at list store area tickets i k there_is u eu f list' store' area' tickets' g) =
+      a_refused_leaf_ends_the_row at list store area tickets i k there_is u eu f list' store' area' tickets' g

@@ -1,7 +1,7 @@
 -- `row_leaves::all_turns` meets its contract.
 use Rattle.std.proofs.Common.{◌<◌, length, rules}
 use Rattle.refusal.proofs.Refused.{passed_on}
-use Rattle.row_leaves.proofs.Stands.{nothing_stands, the_turn_begins, the_turn_is_there, a_refused_leaf_ends_the_row, one_leaf_more, the_row_is_turned}
+use Rattle.row_leaves.proofs.Stands.{nothing_stands, the_turn_begins, the_turn_is_there, one_leaf_more, behind_the_last, with_a_refused_leaf, the_row_is_turned}
 use Rattle.row_leaves.proofs.all_turns.Goals as goal
 
 pub loop-i-init : goal.loop-i-init
@@ -21,7 +21,7 @@ turn-requires c =
 pub returns-in_err-at : goal.returns-in_err-at
 returns-in_err-at c =
     let stands = c.loop-i.invariant in
-    rw (passed_on _ _ c.from_residual.ensures) (a_refused_leaf_ends_the_row _ _ _ _ _ stands.0 _ _ _ _ _ _ stands.1 c.loop-i-test.true _ c.turn_at.ensures _ _ _ _ _ c.in_err-at.ensures)
+    rw (passed_on _ _ c.from_residual.ensures) (the_row_is_turned _ _ _ _ _ stands.0 (with_a_refused_leaf _ _ _ _ _ _ stands.1 c.loop-i-test.true _ c.turn_at.ensures _ _ _ _ _ c.in_err-at.ensures))
 
 pub loop-i-preserved : goal.loop-i-preserved
 loop-i-preserved c =
@@ -31,4 +31,4 @@ loop-i-preserved c =
 pub returns : goal.returns
 returns c =
     let stands = c.loop-i.invariant in
-    the_row_is_turned _ _ _ _ _ stands.0 _ _ _ _ _ _ stands.1 c.loop-i-test.false
+    the_row_is_turned _ _ _ _ _ stands.0 (behind_the_last _ _ _ _ _ _ stands.1 c.loop-i-test.false)
