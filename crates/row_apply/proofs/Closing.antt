@@ -1,7 +1,7 @@
 -- What the call leaves, by the outcome's definition. Assumes nothing.
 use mathlib.Core.Path.{◌≡◌, refl, sym, ap, ◌∙◌}
 use mathlib.Core.List.{List, [], ◌∷◌}
-use Prim.Native.Nat.{ℕ, ◌+◌, ◌<◌}
+use Prim.Native.Nat.{ℕ, ◌+◌, ◌-◌, ◌<◌}
 use native.Mathlib.Omega.{arith}
 use native.Mathlib.Numerals.{add-one}
 use lib.ListN.{length, get_or, replicate, length-replicate}
@@ -12,6 +12,7 @@ use Rattle.refusal.specs.Numbers.{number}
 use Rattle.refusal.proofs.Refused.{refused}
 use Rattle.bit_ops.specs.Steps.{zeros}
 use Rattle.leaf_node.specs.Fits.{All, nil, cons}
+use Rattle.leaf_model.specs.Basics.{cleared}
 use Rattle.leaf_work.specs.declared.Entry.{Entry}
 use Rattle.leaf_work.specs.Lent.{blank}
 use Rattle.leaf_open.proofs.Openings.{a_page_has_4096_bytes}
@@ -31,6 +32,12 @@ use Rattle.row_apply.specs.Apply.{row_reply, RowSays, TakenTo, LentSays, RowLent
 pub all_are_as_long : (n : ℕ) (xs : List (List ℕ)) → ((i : ℕ) → i < length xs → length (get_or xs i []) ≡ n) → All (λ x. length x ≡ n) xs
 all_are_as_long n [] h = nil
 all_are_as_long n (x ∷ xs) h = cons (h 0 (omega arith)) (all_are_as_long n xs (λ i l. rw add-one at (h (i + 1) (omega arith))))
+
+-- ---- unused entries
+
+pub all_are_unused : (list : List Entry) → cleared blank list 0 ≡ replicate (length list) blank
+unfolding cleared
+all_are_unused list = let m : length list - 0 ≡ length list = omega arith in ap (λ (k : ℕ). replicate k blank) m
 
 -- ---- the call
 
