@@ -1,9 +1,13 @@
 -- A pending record by its index: in the entry that holds it, else in the base's rest. Assumes nothing.
 use mathlib.Core.Path.{◌≡◌, refl, sym, ap, ◌∙◌}
+use mathlib.Core.Logic.{◌⊎◌, inl, inr}
+use mathlib.Core.Bool.{Bool, true, false}
 use mathlib.Core.List.{List, [], ◌∷◌, ◌++◌, append_assoc}
 use Prim.Native.Nat.{ℕ, zero, suc, ◌+◌, ◌-◌, ◌<◌}
 use native.Mathlib.Omega.{arith}
+use lib.Dec.{ltb}
 use lib.ListN.{length, get_or, take}
+use borrow.Author.Tests.{ltb-true, ltb-false}
 use Rattle.leaf_node.specs.Page.{count}
 use Rattle.leaf_work.specs.declared.Work.{Work}
 use Rattle.leaf_work.specs.declared.Entry.{Entry}
@@ -18,6 +22,28 @@ use Rattle.leaf_pending.proofs.Twins.{accepted_twin}
 abbrev pub records_of : List Entry → ℕ
 records_of [] = 0
 records_of (e ∷ es) = records_in e + records_of es
+
+-- of the first n entries: index i is `left` records into entry j, or behind the records of all
+pub record InEntry (n : ℕ) (list : List Entry) (i : ℕ) : Type 0 where
+  pub j : ℕ
+  pub left : ℕ
+  pub used : j < n
+  pub there : left < records_in (get_or list j blank)
+  pub index_is : i ≡ records_of (take j list) + left
+
+pub record BehindAll (n : ℕ) (list : List Entry) (i : ℕ) : Type 0 where
+  pub left : ℕ
+  pub index_is : i ≡ records_of (take n list) + left
+
+pub each_index_is_in_an_entry_or_behind_all : (n : ℕ) (list : List Entry) (i : ℕ) → InEntry n list i ⊎ BehindAll n list i
+each_index_is_in_an_entry_or_behind_all zero list i = inr (record { left = i; index_is = omega arith })
+each_index_is_in_an_entry_or_behind_all (suc n) [] i = inr (record { left = i; index_is = omega arith })
+each_index_is_in_an_entry_or_behind_all (suc n) (e ∷ es) i = go (ltb i (records_in e)) refl (each_index_is_in_an_entry_or_behind_all n es (i - records_in e))
+  where
+    go : (b : Bool) → ltb i (records_in e) ≡ b → InEntry n es (i - records_in e) ⊎ BehindAll n es (i - records_in e) → InEntry (suc n) (e ∷ es) i ⊎ BehindAll (suc n) (e ∷ es) i
+    go true q r = inl (record { j = 0; left = i; used = omega arith; there = ltb-true i (records_in e) q; index_is = omega arith })
+    go false q (inl x) = inl (record { j = suc x.j; left = x.left; used = omega (arith, x.used); there = x.there; index_is = omega (arith, ltb-false i (records_in e) q, x.index_is) })
+    go false q (inr x) = inr (record { left = x.left; index_is = omega (arith, ltb-false i (records_in e) q, x.index_is) })
 
 module _ (p : List ℕ) (ys : List Place) where
   behind_one : (e : Entry) (es : List Entry) (i : ℕ) → nth_place (records_in e + i) (places_of p (e ∷ es) ++ ys) ≡ nth_place i (places_of p es ++ ys)
