@@ -1,9 +1,10 @@
--- Bytes that are settled: what is in use is cleared, and the rest is zeros already. Assumes nothing.
+-- Bytes that are settled: what is in use is cleared, and the rest is zeros already. Where nothing is moved to the start, all is cleared.
+-- Assumes nothing.
 use mathlib.Core.Path.{◌≡◌, sym, ap, ◌∙◌}
 use Prim.Native.Nat.{ℕ, ◌+◌, ◌-◌, ◌≤◌, ◌<◌, max}
 use mathlib.Core.List.{List, ◌++◌}
 use native.Mathlib.Omega.{arith}
-use lib.ListN.{length, get_or, take, drop, replicate, length-take, length-drop, get_or-replicate, replicate-append-replicate}
+use lib.ListN.{length, get_or, take, drop, replicate, length-take, length-drop, get_or-replicate, drop_of_length-le, replicate-append-replicate}
 use lib.Seq.{ext_get_or, get_or-append-add, get_or-drop, get_or-take}
 use Rattle.bit_ops.specs.Steps.{zeros}
 use Rattle.leaf_node.specs.Build.{put}
@@ -11,6 +12,16 @@ use Rattle.leaf_node.proofs.Lengths.{length_zeros}
 use Rattle.leaf_builder.proofs.Putting.{put_same, put_put, put_swap}
 use Rattle.leaf_move.specs.Moving.{lowered, settled, Spare}
 use Rattle.leaf_move.proofs.Lowering.{top_long, low_long, bytes_that_are_lowered_and_cleared_are_settled}
+
+pub settling_none_clears_all : {A : Type 0} (z : A) (xs : List A) → settled z xs 0 ≡ replicate (length xs) z
+unfolding settled
+settling_none_clears_all z xs =
+    let e : length xs - 0 ≡ length xs = omega arith in
+    rw (e, drop_of_length-le xs {i = length xs} (omega arith))
+
+-- nothing is asked of bytes that may all be in use
+pub all_may_be_in_use : (d : List ℕ) → Spare d 0 (length d)
+all_may_be_in_use d = record { few = omega arith; within = omega arith; zero = λ i h l. absurd (omega arith) }
 
 zeros_join : (a b c : ℕ) → a ≤ b → b ≤ c → zeros (b - a) ++ zeros (c - b) ≡ zeros (c - a)
 zeros_join a b c h k =
