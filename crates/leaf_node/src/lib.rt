@@ -195,12 +195,14 @@ pub fn check(page: &[u8]) -> Result<(), Refusal>
 
 // ---- parts of bytes
 
-// Copies all of src into dst, from index `at` on.
+// Copies all of src into dst, from index `at` on. A loop, since the library's copy of a length that isn't known is a call of memmove.
 pub fn copy_in(src: &[u8], dst: &mut [u8], at: usize)
     requires { at + length src.now ≤ length dst.old }
     ensures { dst.new ≡ put dst.old at src.now }
 {
-    dst[at..at + src.len()].copy_from_slice(src);
+    for j in 0..src.len() {
+        dst[at + j] = src[j];
+    }
 }
 
 // The value bytes of records `from` up to `to`: their values lie one after the other. The method's body, and public for pages that callers
