@@ -294,7 +294,7 @@ pub fn lent_base<'a>(
 pub fn closed_verdict(work: &Work, list: &[Entry], store: &[u8], size: Size) -> Result<(), Refusal>
     ensures { number_of result ≡ closed_verdict size.bytes work.now list.now store.now accepted }
 {
-    if !room_right(Room::of(list, store), size) {
+    if !room_right(Room::of(list, store), size) { // of an open one too
         return Err(Refusal::RoomLength);
     }
     if work.is_open() {
