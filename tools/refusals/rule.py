@@ -1,6 +1,7 @@
 """The rule that every wrong answer is held to. docs/PROVING.md has it in words."""
 
 import os
+import re
 from concurrent.futures import ThreadPoolExecutor
 from dataclasses import dataclass
 from pathlib import Path
@@ -8,7 +9,7 @@ from pathlib import Path
 import kit
 
 from . import logs, runs
-from .edits import BadEdit, apart, edits_of, functions_of, last_name
+from .edits import BadEdit, apart, edits_of, function_at, last_name
 from .rows import is_computed_row
 from .tries import Tries
 
@@ -79,9 +80,19 @@ def amiss_in_code(root, edit, answer):
         yield "it changes the code of a lower crate, which the upper one does not see", "change a definition of it"
     if not answer.shown:
         yield "nothing shows that it is wrong", "write `shown: EXPRESSION`, which holds of the crate and not with this answer"
-    functions = functions_of(root, edit, answer)
-    if {last_name(f) for f in functions} != {last_name(p.file) for p in answer.places}:
+    functions = {proof_of(c.file, function_at((root / "crates" / edit.changed / c.file).read_text(), c.old)) for c in answer.changes}
+    if functions != {p.file for p in answer.places}:
         yield f"it changes {', '.join(sorted(functions))}, and another proof is to refuse it", "name the function that it changes"
+
+
+def proof_of(file, function):
+    """The name that the prover gives a function of a file of src/, a method with the head of its `impl`: its module, then all words of the type and of the trait."""
+    modules = [m for m in Path(file).with_suffix("").parts[1:] if m not in ("lib", "main")]
+    head = function.removesuffix(last_name(function)).removesuffix("::")
+    trait, _, of = re.sub(r"^impl(<.*?>)? ?", "", head).rpartition(" for ")
+    words = [word for part in (of, trait) for word in re.findall(r"'\w+|\[|\w+", part) if word[0] != "'"]
+    name = "".join("Array" if word == "[" else word[0].upper() + word[1:] for word in words)
+    return "::".join([*modules, *([name] if name else []), last_name(function)])
 
 
 def amiss_in_definition(root, edit, answer):
