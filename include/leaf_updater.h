@@ -252,7 +252,7 @@ LeafReport leaf_ingest(LeafWork *work, LeafEntry *list, size_t list_len, uint8_t
  * Leaves a work that is done, with list and store all zeros; or one that waits for a merge, with the records that are left as inserts.
  * Refuses by: 1 to 6 for the base's page; 7; 8; 9 when waiting or done; 17 where the area is shorter than LEAF_AREA_ASKED of the pending
  * body or the tickets shorter than LEAF_TICKETS_ASKED, also where it would give no leaf.
- * Stack: 2,304 bytes.
+ * Stack: 2,048 bytes.
  */
 LeafGave leaf_digest(LeafWork *work, LeafEntry *list, size_t list_len, uint8_t *store, size_t store_len,
                      const uint8_t *page, size_t page_len, uint8_t *area, size_t area_len, uint8_t *tickets,
@@ -364,7 +364,7 @@ LeafSize leaf_page_values_size(const uint8_t *page, size_t page_len, size_t from
  * Builds the page of records `from` up to, not including, `to` in the first 4,096 bytes of out: records before `mid` one by one, the
  * others as one chunk. The bytes between pointers and values are zeros. Answers 0 or the refusal; refused, out keeps what it held.
  * Refuses by: 1 to 5; 10 unless from <= mid <= to and to is at most the number of records; 17 where out is shorter than a page.
- * Stack: 256 bytes.
+ * Stack: 192 bytes.
  */
 uint8_t leaf_page_rebuild(const uint8_t *page, size_t page_len, size_t from, size_t mid, size_t to, uint8_t *out,
                           size_t out_len);
@@ -409,7 +409,7 @@ LeafSplit leaf_overflow_split(const uint8_t *value, size_t value_len, const uint
  * Joins the pages of a cell into their value, in the front of the buffer, whose other bytes keep what they held. Answers the value's length.
  * Refuses by: 23 where no splitting writes the cell; 22 where the buffer or the pages are too short; 23 where none writes the cell with these
  * pages. Refused, the buffer keeps what it held.
- * Stack: 192 bytes.
+ * Stack: 128 bytes.
  */
 LeafJoined leaf_overflow_join(const uint8_t *cell, size_t cell_len, const uint8_t *pages, size_t pages_len, uint8_t *value,
                               size_t value_len);
