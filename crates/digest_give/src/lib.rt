@@ -7,7 +7,7 @@ ghost use Rattle.digest_give.specs.Leaf.{TakenThere, TakenGiven};
 
 use digest_leaf::Pending;
 use leaf_cut::Taken;
-use leaf_give::{Progress, give_ticket};
+use leaf_give::{Progress, give_ticket_by_page};
 use leaf_node::Size;
 
 // Gives out a leaf that was taken off what is pending: its page and its ticket.
@@ -27,5 +27,5 @@ pub fn give_leaf(
     pending.build_leaf(p.at, taken.end.leaf, &mut area[from..to]);
     let next = pending.next_key(taken.at);
     let cutoff = pending.work.cutoff();
-    give_ticket(p, taken, next, cutoff, &area[from..to], tickets)
+    give_ticket_by_page(p, taken, next, cutoff, &area[from..to], tickets)
 }

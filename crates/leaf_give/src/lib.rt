@@ -15,6 +15,9 @@ use leaf_node::{LeafNode, Size};
 use leaf_work::Work;
 use leaf_write::{next_separator, put_ticket};
 
+#[cfg(test)]
+mod tests;
+
 // How far a digest has come: the cursor behind the leaves given out, the records behind it, how many leaves there are, where the next
 // ticket begins, and the separator of what follows.
 #[derive(Clone, Copy)]
@@ -28,9 +31,29 @@ pub struct Progress {
 
 // ---- one leaf
 
+// The ticket of a leaf, up to what separates it from the records behind it, where there are any, else up to the cutoff; and how far the digest has
+// come with it. For a caller that has the separator ready made: it is written as the cutoff of a last leaf is, and no page is read.
+pub fn give_ticket(
+    p: Progress,
+    taken: Taken,
+    next: Option<&[u8; 32]>,
+    cutoff: Option<&[u8; 32]>,
+    tickets: &mut [u8],
+) -> Progress
+    requires { TicketAsked p taken.end.leaf (length tickets.old) }
+    ensures { FurtherBy p taken (lent_key next.entry) (lent_key cutoff.entry) tickets.old result tickets.new }
+{
+    let further = give_ticket_by_page(p, taken, None, next.or(cutoff), &[], tickets);
+    let separator = *next.unwrap_or(&p.separator);
+    Progress {
+        separator,
+        ..further
+    }
+}
+
 // The ticket of a leaf, up to what separates it from the records behind it, by its page and the first key of these, where there are any, else up to
 // the cutoff; and how far the digest has come with it.
-pub fn give_ticket(
+pub fn give_ticket_by_page(
     p: Progress,
     taken: Taken,
     next: Option<&[u8; 32]>,
